@@ -1,0 +1,10 @@
+mod Accepting
+mod Complete
+mod Fields
+mod Judging
+mod Lines
+mod Nets
+mod Numerals
+mod Pages
+mod Steps
+mod Writes
