@@ -2,6 +2,7 @@
 -- That `s` passed is had by `ap isOk e` from `e : Ok u ≡ s`.
 use mathlib.Core.Path.{_≡_, refl, sym}
 use mathlib.Core.Bool.{Bool, true, false}
+use Prim.Native.Nat.{ℕ}
 use native.Mathlib.Omega.{arith}
 use Rattle.std.specs.Results.{isOk}
 use Rattle.std.specs.declared.result.Result.{Result}
@@ -20,6 +21,11 @@ then-fails s x y e = rw (← e)
 pub then-both : {X E : Type 0} (s : Result Unit E) (x : Result X E) → true ≡ isOk (s then x) → (true ≡ isOk s) × (true ≡ isOk x)
 then-both (Ok u) x e = (refl, e)
 then-both (Err y) x e = let never : _≡_ {A = Bool} true false = e in absurd (grind arith)
+
+-- an answer after checks: they passed, and it is the answer of the rest
+pub then-ok : {X E : Type 0} (s : Result Unit E) (x : Result X E) (y : X) → s then x ≡ Ok y → (true ≡ isOk s) × (x ≡ Ok y)
+then-ok (Ok u) x y e = (refl, e)
+then-ok (Err z) x y e = let never : _≡_ {A = ℕ} 0 1 = cc in absurd (omega arith)
 
 -- what was demanded holds
 pub check-passed : (ok : Bool) (r : Refusal) → true ≡ isOk (check ok r) → ok ≡ true

@@ -1,0 +1,5 @@
+mod Days
+mod Growth
+mod Passed
+mod Products
+mod Rounds
