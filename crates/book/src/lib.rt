@@ -1,4 +1,6 @@
 // The book: live swaps, acceptance, early ends and the diary.
+#![tactic(auto)]
+
 pub mod book;
 pub mod calls;
 pub mod diary;

@@ -1,5 +1,7 @@
 // Reads a cash sheet on standard input and prints the report on it.
 // Only the front of the input that decides the report is read, so any input is answered at once.
+#![tactic(auto)]
+
 use sheet::report::{FRONT, report};
 use std::io::Read;
 

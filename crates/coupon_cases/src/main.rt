@@ -1,6 +1,8 @@
 // Runs a table of coupons on standard input, a case to a line, and prints what the coupon library answers.
 //   line KIND N K TRM LETTER A B RATE:DAYS ..   the coupon of a line for the long side
 //   fixed, variable, dollars or alignment with their figures: what a C host is answered
+#![tactic(auto)]
+
 use anyhow::{Context, anyhow};
 use coupons::exports::{runtsigo_alignment, runtsigo_dollars, runtsigo_fixed, runtsigo_variable};
 use coupons::legs::{CouponLine, Kind};

@@ -1,4 +1,6 @@
 // Coupons and price alignment: the arithmetic leaf of the engine.
+#![tactic(auto)]
+
 pub mod exports;
 pub mod figures;
 mod formulas;

@@ -3,6 +3,8 @@
 //   accept LONG SHORT KIND N K NPV MATURITY
 //   ask NUMBER ACCOUNT PAYMENT SESSION       and   answer NUMBER ACCOUNT yes|no
 //   diary K, swap NUMBER, session, live      what a caller may ask of the house
+#![tactic(auto)]
+
 use anyhow::{Context, anyhow};
 use book::calls::{Offer, Reply, Request};
 use coupons::legs::Kind;

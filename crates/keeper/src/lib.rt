@@ -1,4 +1,6 @@
 // The keeper: of all the entries put to it, the first k in order, over a lent slice of k places.
+#![tactic(auto)]
+
 ghost use Rattle.std.specs.Prelude.{◌≡◌, ◌+◌, ◌≤◌, min, Bool, ◌∷◌, ◌++◌, length, take, drop};
 ghost use Rattle.keeper.specs.Order.{TotalOrder, insert, first_of};
 ghost use Rattle.keeper.specs.First.{FirstOf};

@@ -1,6 +1,8 @@
 // Runs a table of keepers on standard input, a case to a line, and prints what each holds.
 //   K TIME:BIB TIME:BIB ..   K places, and the runners put in this order; of two with one time neither comes first
 // A line of the answer has the count of the filled places and then all K places, those not filled as `-`.
+#![tactic(auto)]
+
 ghost use Rattle.keeper_cases.specs.Runners.{faster};
 ghost use Rattle.keeper_cases.specs.RunnerOrderedLemmas.{one-first, carries, level};
 

@@ -1,4 +1,6 @@
 // What a ledger is: the funds that it means, and what it promises of a charge, a credit, a top-up and a question.
+#![tactic(auto)]
+
 ghost use Rattle.std.specs.Prelude.{◌≡◌};
 ghost use Rattle.ledger.specs.Funds.{Funds, Whole, fund, decides_charge, decides_credit, decides_top_up, after_charge, after_credit, after_top_up};
 

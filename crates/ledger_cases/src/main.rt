@@ -2,6 +2,8 @@
 //   open HOUSE FUND ..                        both books are opened anew; where that is refused they stay as they are
 //   charge, credit or top_up MEMBER AMOUNT    the decision, then the member's fund and the house fund
 //   fund MEMBER, house, funds                 the questions; the last is one for each of the 32 members
+#![tactic(auto)]
+
 use anyhow::{Context, anyhow};
 use ledger::deposit::DepositBook;
 use ledger::lines::LineBook;

@@ -1,4 +1,6 @@
 // The refusals of the engine, a fault with its place, and the form of an ordered check.
+#![tactic(auto)]
+
 ghost use Rattle.std.specs.Prelude.{◌≡◌, ◌<◌, ◌≤◌, IfOk};
 ghost use Rattle.refusal.specs.Refusals.{number, bare, on_line, on_observation};
 ghost use Rattle.refusal.specs.Checks.{within, check, count_of, placed};

@@ -1,4 +1,6 @@
 // The cash sheet: orders as text, their reader, and the report on a sheet.
+#![tactic(auto)]
+
 mod compose;
 pub mod order;
 mod page;

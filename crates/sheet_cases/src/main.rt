@@ -1,6 +1,8 @@
 // Runs a table of sheets on standard input, a case to a line, and prints what the sheet library answers.
 //   read HEX                       the report on those bytes
 //   write ROOM SESSION NET NET ..  the writer's answer, and the buffer of so much room after it
+#![tactic(auto)]
+
 use anyhow::{Context, anyhow};
 use refusal::Fault;
 use sheet::report::report;
