@@ -6,16 +6,16 @@ use Rattle.keeper.proofs.spot.Goals as goal
 pub loop-i-init : goal.loop-i-init
 loop-i-init g c = (omega arith, refl)
 
-pub returns-then-goes-ahead : goal.returns-then-goes-ahead
-returns-then-goes-ahead g c = record {
+pub returns-then-goes_ahead : goal.returns-then-goes_ahead
+returns-then-goes_ahead g c = record {
   within = omega arith;
-  splits = spot_found g.T.Ordered.before c.args.item.now c.args.held.now c.loop-i.i c.index-held-i.result c.loop-i-test.true c.index-held-i.is (sym c.if-goes-ahead.ensures) c.loop-i.invariant.1;
+  splits = spot_found g.T.Ordered.before c.args.item.now c.args.held.now c.loop-i.i c.index-held-i.result c.loop-i-test.true c.index-held-i.is (sym c.if-goes_ahead.ensures) c.loop-i.invariant.1;
 }
 
 pub loop-i-preserved : goal.loop-i-preserved
 loop-i-preserved g c = (
   omega arith,
-  spot_more g.T.Ordered.before c.args.item.now c.args.held.now c.loop-i.i c.index-held-i.result c.loop-i-test.true c.index-held-i.is (sym c.if-goes-ahead.ensures) c.loop-i.invariant.1,
+  spot_more g.T.Ordered.before c.args.item.now c.args.held.now c.loop-i.i c.index-held-i.result c.loop-i-test.true c.index-held-i.is (sym c.if-goes_ahead.ensures) c.loop-i.invariant.1,
 )
 
 pub returns : goal.returns

@@ -10,8 +10,8 @@ yes c = within_same _ _ _ _ _ _ (omega (arith, ints)) (omega (arith, ints)) (ome
 no : (c : goal.Else-inside) → within (pos c.args.low) (pos c.args.end -ℤ pos 1) c.args.figure ≡ false
 no c = within_same _ _ _ _ _ _ (omega (arith, ints)) (omega (arith, ints)) (omega (arith, ints)) ∙ sym c.if-inside.ensures
 
-pub overflow-cast-result : goal.overflow-cast-result
-overflow-cast-result c =
+pub overflow_cast-result : goal.overflow_cast-result
+overflow_cast-result c =
     let low = within_low _ _ _ (yes c) in
     let high = within_high _ _ _ (yes c) in
     (grind (arith, ints), omega (arith, ints))

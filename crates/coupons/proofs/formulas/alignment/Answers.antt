@@ -23,12 +23,12 @@ opposite x f h = omega (arith, ints)
 opposite_fits : (x : ℤ) → SFits w64 x → nat_abs x ≤ 1000000000000000000 → SFits w64 (pos 0 -ℤ to_z w64 (of_z w64 x))
 opposite_fits x f h = fits_small (pos 0 -ℤ to_z w64 (of_z w64 x)) (omega (arith, ints))
 
-pub overflow-sub-result : goal.overflow-sub-result
-overflow-sub-result c = opposite_fits c.ratio.result (record { sfits = c.ratio.type-inv }) (small (at·sub-result c).After-ratio)
+pub overflow_sub-result : goal.overflow_sub-result
+overflow_sub-result c = opposite_fits c.ratio.result (record { sfits = c.ratio.type_inv }) (small (at·sub-result c).After-ratio)
 
 pub returns : goal.returns
 returns c =
     let here = (at·returns c).After-ratio in
     let few = small here in
-    let e = opposite c.ratio.result (record { sfits = c.ratio.type-inv }) few in
+    let e = opposite c.ratio.result (record { sfits = c.ratio.type_inv }) few in
     record { answer = e ∙ ap neg_ℤ (gain here) ∙ sym (rounded-odd (c.args.npv *ℤ c.args.overnight *ℤ c.args.days) 36000000 (omega arith)); bound = subst (λ y. nat_abs y ≤ 1000000000000000000) (sym e) (omega (arith, ints)) }

@@ -8,5 +8,5 @@ ratio-requires c =
 
 pub returns : goal.returns
 returns c =
-    let e = ratio_is c.args.thousands c.args.rate c.args.days c.ranges.thousands c.ranges.rate c.ranges.days 360000 c.ratio.result (record { sfits = c.ratio.type-inv }) c.ratio.ensures in
+    let e = ratio_is c.args.thousands c.args.rate c.args.days c.ranges.thousands c.ranges.rate c.ranges.days 360000 c.ratio.result (record { sfits = c.ratio.type_inv }) c.ratio.ensures in
     record { answer = e; bound = subst (λ y. nat_abs y ≤ 10166666667) (sym e) (ratio_small c.args.thousands c.args.rate c.args.days 100000 100000000 366 360000 10166666667 c.requires.thousands c.requires.rate c.requires.days (omega arith) (omega arith)) }

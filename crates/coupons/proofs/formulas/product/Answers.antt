@@ -14,11 +14,11 @@ module _ (a b c : ℤ) (f : SFits w64 a) (g : SFits w64 b) (h : SFits w64 c) (tw
   fits : SFits w64 (to_z w64 (of_z w64 (to_z w64 (of_z w64 a) *ℤ to_z w64 (of_z w64 b))) *ℤ to_z w64 (of_z w64 c))
   fits = subst (SFits w64) (sym whole) (fits_small (a *ℤ b *ℤ c) (omega arith))
 
-pub overflow-mul-result : goal.overflow-mul-result
-overflow-mul-result c = fits_two c.args.a c.args.b c.ranges.a c.ranges.b c.requires.two
+pub overflow_mul-result : goal.overflow_mul-result
+overflow_mul-result c = fits_two c.args.a c.args.b c.ranges.a c.ranges.b c.requires.two
 
-pub overflow-mul-result-2 : goal.overflow-mul-result-2
-overflow-mul-result-2 c = fits c.args.a c.args.b c.args.c c.ranges.a c.ranges.b c.ranges.c c.requires.two c.requires.three
+pub overflow_mul-result-2 : goal.overflow_mul-result-2
+overflow_mul-result-2 c = fits c.args.a c.args.b c.args.c c.ranges.a c.ranges.b c.ranges.c c.requires.two c.requires.three
 
 pub returns : goal.returns
 returns c =

@@ -8,5 +8,5 @@ ratio-requires c =
 
 pub returns : goal.returns
 returns c =
-    let e = ratio_is c.args.millions c.args.rate c.args.days c.ranges.millions c.ranges.rate c.ranges.days 360 c.ratio.result (record { sfits = c.ratio.type-inv }) c.ratio.ensures in
+    let e = ratio_is c.args.millions c.args.rate c.args.days c.ranges.millions c.ranges.rate c.ranges.days 360 c.ratio.result (record { sfits = c.ratio.type_inv }) c.ratio.ensures in
     record { answer = e; bound = subst (λ y. nat_abs y ≤ 1000000000000000000) (sym e) (ratio_small c.args.millions c.args.rate c.args.days 100000 18000000000 366 360 1000000000000000000 c.requires.millions c.requires.rate c.requires.days (omega arith) (omega arith)) }

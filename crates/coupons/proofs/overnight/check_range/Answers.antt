@@ -9,7 +9,7 @@ use Rattle.coupons.proofs.overnight.check_range.Goals as goal
 use Rattle.coupons.proofs.overnight.check_range.Goals.{In-ok-demand, at·sub-len, at·returns}
 
 counted : (c : In-ok-demand) → within (pos 1) (pos 366) c.args.count ≡ true
-counted c = within_same _ _ _ _ _ _ refl refl (sym (to_z-of_z w64 c.args.count c.ranges.count)) ∙ sym c.inside.ensures ∙ check_passed _ _ (ap is_ok c.in-ok-demand.ensures)
+counted c = within_same _ _ _ _ _ _ refl refl (sym (to_z-of_z w64 c.args.count c.ranges.count)) ∙ sym c.inside.ensures ∙ check_passed _ _ (ap is_ok c.in_ok-demand.ensures)
 
 -- what is left of the list, in the machine
 rest_fits : (len : ℕ) (count : ℤ) → len < 1000000000000000000 → pos 1 ≤ℤ count → count ≤ℤ pos 366 → SFits w64 count → SFits w64 (to_z w64 len -ℤ to_z w64 (of_z w64 count))
@@ -18,8 +18,8 @@ rest_fits len count short low high f = fits_small (to_z w64 len -ℤ to_z w64 (o
 rest_is : (len : ℕ) (count : ℤ) → len < 1000000000000000000 → pos 1 ≤ℤ count → count ≤ℤ pos 366 → SFits w64 count → to_z w64 (of_z w64 (to_z w64 len -ℤ to_z w64 (of_z w64 count))) ≡ pos len -ℤ count
 rest_is len count short low high f = to_z-of_z w64 _ (rest_fits len count short low high f) ∙ omega (arith, ints)
 
-pub overflow-sub-len : goal.overflow-sub-len
-overflow-sub-len c =
+pub overflow_sub-len : goal.overflow_sub-len
+overflow_sub-len c =
     let h = counted (at·sub-len c).In-ok-demand in
     rest_fits c.args.len c.args.count c.requires (within_low _ _ _ h) (within_high _ _ _ h) c.ranges.count
 

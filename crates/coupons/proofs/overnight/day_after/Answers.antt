@@ -20,7 +20,7 @@ rate_fits c = search rules
 
 passed : (c : In-ok-check-overnight) → true ≡ is_ok (overnight_checks c.args.observation.now.rate c.args.observation.now.days)
 passed c =
-    ap is_ok c.in-ok-check-overnight.ensures
+    ap is_ok c.in_ok-check_overnight.ensures
     ∙ ap (λ r. is_ok (overnight_checks r (to_z w64 (of_z w64 c.args.observation.now.days)))) (to_z-of_z w64 _ (rate_fits c))
     ∙ ap (λ d. is_ok (overnight_checks c.args.observation.now.rate d)) (to_z-of_z w64 _ (days_fit c))
 
@@ -37,18 +37,18 @@ fits c = let p = overnight_passed _ _ (passed c) in sum_fits c.args.days c.args.
 sum : (c : In-ok-check-overnight) → to_z w64 (of_z w64 (to_z w64 (of_z w64 c.args.days) +ℤ to_z w64 (of_z w64 c.args.observation.now.days))) ≡ c.args.days +ℤ c.args.observation.now.days
 sum c = let p = overnight_passed _ _ (passed c) in sum_is c.args.days c.args.observation.now.days c.ranges.days (days_fit c) c.requires.few p.2 p.3
 
-pub overflow-add-sum : goal.overflow-add-sum
-overflow-add-sum c = fits (at·add-sum c).In-ok-check-overnight
+pub overflow_add-sum : goal.overflow_add-sum
+overflow_add-sum c = fits (at·add-sum c).In-ok-check-overnight
 
-pub returns-in-err-demand : goal.returns-in-err-demand
-returns-in-err-demand c =
+pub returns-in_err-demand : goal.returns-in_err-demand
+returns-in_err-demand c =
     let here = (at·returns-in-err-demand c).In-ok-check-overnight in
     let o = c.args.observation.now in
     let after = c.args.days +ℤ o.days in
     let room = check (le_z after (pos 366)) MarketFigure in
-    let p = err_from_is_err_and c.from-residual-in-err-demand.result c.from-residual-in-err-demand.ensures.1 in
-    let full = c.in-err-demand.ensures ∙ ap (λ z. check (le_z z (pos 366)) MarketFigure) (sum here) in
-    p.1 ∙ ap Err p.2 ∙ sym (then_passes (overnight_checks o.rate o.days) (room then Ok after) (passed here) ∙ then_fails room (Ok after) c.in-err-demand.field-0.0 full)
+    let p = err_from_is_err_and c.from_residual-in_err-demand.result c.from_residual-in_err-demand.ensures.1 in
+    let full = c.in_err-demand.ensures ∙ ap (λ z. check (le_z z (pos 366)) MarketFigure) (sum here) in
+    p.1 ∙ ap Err p.2 ∙ sym (then_passes (overnight_checks o.rate o.days) (room then Ok after) (passed here) ∙ then_fails room (Ok after) c.in_err-demand.field-0.0 full)
 
 pub returns : goal.returns
 returns c =
@@ -56,5 +56,5 @@ returns c =
     let o = c.args.observation.now in
     let after = c.args.days +ℤ o.days in
     let room = check (le_z after (pos 366)) MarketFigure in
-    let full = c.in-ok-demand.ensures ∙ ap (λ z. check (le_z z (pos 366)) MarketFigure) (sum here) in
+    let full = c.in_ok-demand.ensures ∙ ap (λ z. check (le_z z (pos 366)) MarketFigure) (sum here) in
     ap Ok (sum here) ∙ sym (then_passes (overnight_checks o.rate o.days) (room then Ok after) (passed here) ∙ then_passes room (Ok after) (ap is_ok full))

@@ -14,27 +14,27 @@ use Rattle.coupons.proofs.overnight.factor_of.Goals as goal
 blank : Observation
 blank = record { rate = pos 0; days = pos 0 }
 
-pub returns-in-err-at-observation : goal.returns-in-err-at-observation
+pub returns-in_err-at_observation : goal.returns-in_err-at_observation
 unfolding blank
-returns-in-err-at-observation c =
+returns-in_err-at_observation c =
     let os = c.args.observations.now in
     let i = c.loop-i.i in
     let start = pos 100000000000 in
-    let same = to_z-of_z w64 c.grown-factor.result (record { sfits = c.grown-factor.type-inv }) ∙ c.grown-factor.ensures.answer in
-    let p = err_from_is_err_and c.from-residual.result c.from-residual.ensures.1 in
-    let met = c.in-err-at-observation.ensures ∙ ap (seen (i + 1)) (c.demand.ensures ∙ ap (λ z. check (le_z z (pos 150000000000)) Factor) same) in
-    let over = sym (then_fails _ _ c.in-err-at-observation.field-0.0 met) ∙ sym (factors_more os i (i + 1) _ blank c.loop-i-test.true) ∙ c.loop-i.invariant.2 in
-    record { answer = p.1 ∙ ap Err p.2 ∙ sym (then_fails (factor_checks 1 start os) (Ok (compounded start os)) c.in-err-at-observation.field-0.0 over); least = rw p.1 tt; most = rw p.1 tt }
+    let same = to_z-of_z w64 c.grown-factor.result (record { sfits = c.grown-factor.type_inv }) ∙ c.grown-factor.ensures.answer in
+    let p = err_from_is_err_and c.from_residual.result c.from_residual.ensures.1 in
+    let met = c.in_err-at_observation.ensures ∙ ap (seen (i + 1)) (c.demand.ensures ∙ ap (λ z. check (le_z z (pos 150000000000)) Factor) same) in
+    let over = sym (then_fails _ _ c.in_err-at_observation.field-0.0 met) ∙ sym (factors_more os i (i + 1) _ blank c.loop-i-test.true) ∙ c.loop-i.invariant.2 in
+    record { answer = p.1 ∙ ap Err p.2 ∙ sym (then_fails (factor_checks 1 start os) (Ok (compounded start os)) c.in_err-at_observation.field-0.0 over); least = rw p.1 tt; most = rw p.1 tt }
 
 pub loop-i-preserved : goal.loop-i-preserved
 unfolding blank
 loop-i-preserved c =
     let os = c.args.observations.now in
     let i = c.loop-i.i in
-    let machine = to_z-of_z w64 c.grown-factor.result (record { sfits = c.grown-factor.type-inv }) in
+    let machine = to_z-of_z w64 c.grown-factor.result (record { sfits = c.grown-factor.type_inv }) in
     let same = machine ∙ c.grown-factor.ensures.answer in
-    let tested = c.in-ok-at-observation.ensures ∙ ap (seen (i + 1)) c.demand.ensures in
-    let high = int_le-true _ (pos 150000000000) (check_passed _ Factor (sym (ap is_ok (seen_ok (i + 1) _ c.in-ok-at-observation.field-0 tested)))) in
+    let tested = c.in_ok-at_observation.ensures ∙ ap (seen (i + 1)) c.demand.ensures in
+    let high = int_le-true _ (pos 150000000000) (check_passed _ Factor (sym (ap is_ok (seen_ok (i + 1) _ c.in_ok-at_observation.field-0 tested)))) in
     let low = subst (λ y. pos 100000000000 ≤ℤ y) (sym machine) (le_on _ _ _ c.loop-i.invariant.0 c.grown-factor.ensures.rises) in
     let met = tested ∙ ap (λ z. seen (i + 1) (check (le_z z (pos 150000000000)) Factor)) same in
     (low, high, ap (λ k. factor_checks (i + 1 + 1) k (drop (i + 1) os)) same ∙ sym (then_passes _ _ (ap is_ok met)) ∙ sym (factors_more os i (i + 1) _ blank c.loop-i-test.true) ∙ c.loop-i.invariant.2, ap (λ k. compounded k (drop (i + 1) os)) same ∙ sym (compounded-more os i _ blank c.loop-i-test.true) ∙ c.loop-i.invariant.3)

@@ -22,5 +22,5 @@ returns c =
     let d = 25 * nat_abs c.args.days in
     let dividend = ap (λ x. to_z w64 (of_z w64 (x *ℤ pos 9))) (less f low high) ∙ nine (f -ℤ pos 100000000000) (omega (arith, ints)) (omega (arith, ints)) in
     let divisor = ap (λ x. 25 * nat_abs x) (to_z-of_z w64 c.args.days c.ranges.days) in
-    let e = to_z-of_z w64 c.rounded.result (record { sfits = c.rounded.type-inv }) ∙ c.rounded.ensures.answer ∙ ap (λ x. rounded x (25 * nat_abs (to_z w64 (of_z w64 c.args.days)))) dividend ∙ ap (rounded z) divisor in
+    let e = to_z-of_z w64 c.rounded.result (record { sfits = c.rounded.type_inv }) ∙ c.rounded.ensures.answer ∙ ap (λ x. rounded x (25 * nat_abs (to_z w64 (of_z w64 c.args.days)))) dividend ∙ ap (rounded z) divisor in
     record { answer = e; bound = subst (λ y. nat_abs y ≤ 18000000000) (sym e) (rounded_bound z d 18000000000 (omega (arith, ints)) (omega (arith, ints))) }

@@ -8,18 +8,18 @@ use Rattle.coupons.proofs.overnight.range.Goals.{In-ok-check-range, at·cast-sta
 
 passed : (c : In-ok-check-range) → true ≡ is_ok (range_checks c.args.len c.args.first c.args.count)
 passed c =
-    ap is_ok c.in-ok-check-range.ensures
+    ap is_ok c.in_ok-check_range.ensures
     ∙ ap (λ f. is_ok (range_checks c.args.len f (to_z w64 (of_z w64 c.args.count)))) (to_z-of_z w64 c.args.first c.ranges.first)
     ∙ ap (λ n. is_ok (range_checks c.args.len c.args.first n)) (to_z-of_z w64 c.args.count c.ranges.count)
 
-pub overflow-cast-start : goal.overflow-cast-start
-overflow-cast-start c =
+pub overflow_cast-start : goal.overflow_cast-start
+overflow_cast-start c =
     let p = range_passed c.args.len c.args.first c.args.count (passed (at·cast-start c).In-ok-check-range) in
     let low = p.2 in
     (grind (arith, ints), omega (arith, ints))
 
-pub overflow-cast-result : goal.overflow-cast-result
-overflow-cast-result c =
+pub overflow_cast-result : goal.overflow_cast-result
+overflow_cast-result c =
     let p = range_passed c.args.len c.args.first c.args.count (passed (at·cast-result c).In-ok-check-range) in
     let low = p.0 in
     (grind (arith, ints), omega (arith, ints))
@@ -38,8 +38,8 @@ module _ (len : ℕ) (first count : ℤ) (short : len < 1000000000000000000) (so
 same : (c : In-ok-check-range) → (nat_abs (to_z w64 (of_z w64 c.args.first)) ≡ nat_abs c.args.first) × (nat_abs (to_z w64 (of_z w64 c.args.count)) ≡ nat_abs c.args.count)
 same c = (ap nat_abs (to_z-of_z w64 c.args.first c.ranges.first), ap nat_abs (to_z-of_z w64 c.args.count c.ranges.count))
 
-pub overflow-add-result : goal.overflow-add-result
-overflow-add-result c =
+pub overflow_add-result : goal.overflow_add-result
+overflow_add-result c =
     let here = (at·add-result c).In-ok-check-range in
     let p = range_passed c.args.len c.args.first c.args.count (passed here) in
     let s = same here in

@@ -10,13 +10,13 @@ use Rattle.ledger.proofs.opening.fund_of.Goals as goal
 use Rattle.ledger.proofs.opening.fund_of.Goals.{In-ok-check-fund, at·cast-result, at·returns}
 
 passed : (c : In-ok-check-fund) → true ≡ is_ok (fund_check c.args.figure)
-passed c = ap is_ok c.in-ok-check-fund.ensures ∙ ap (λ x. is_ok (fund_check x)) (to_z-of_z w64 c.args.figure c.ranges.figure)
+passed c = ap is_ok c.in_ok-check_fund.ensures ∙ ap (λ x. is_ok (fund_check x)) (to_z-of_z w64 c.args.figure c.ranges.figure)
 
 limited : (c : In-ok-check-fund) → within (pos 0) (pos fund_limit) c.args.figure ≡ true
 limited c = check_passed _ Amount (passed c)
 
-pub overflow-cast-result : goal.overflow-cast-result
-overflow-cast-result c =
+pub overflow_cast-result : goal.overflow_cast-result
+overflow_cast-result c =
     let h = limited (at·cast-result c).In-ok-check-fund in
     let low = within_low _ _ _ h in
     let high = within_high _ _ _ h in

@@ -11,19 +11,19 @@ use Rattle.ledger.specs.Funds.{fund_limit}
 pub loop-i-init : goal.loop-i-init
 loop-i-init c = (omega arith, refl, refl, limited_none fund_limit)
 
-pub returns-in-err-funds : goal.returns-in-err-funds
-returns-in-err-funds c =
+pub returns-in_err-funds : goal.returns-in_err-funds
+returns-in_err-funds c =
     let xs = c.args.figures.now in
     let i = c.loop-i.i in
     let x = get_or xs i (pos 0) in
-    let p = err_from_is_err_and c.from-residual.result c.from-residual.ensures.1 in
+    let p = err_from_is_err_and c.from_residual.result c.from_residual.ensures.1 in
     let same : to_z w64 (of_z w64 x) ≡ x = search rules in
-    let met = c.in-err-funds.ensures.answer ∙ ap (λ y. placed (i + 1) (fund_of y)) same in
-    let failed = then_fails (placed (i + 1) (fund_check x)) (fund_checks (i + 1 + 1) (drop (i + 1) xs)) c.in-err-funds.field-0.0 (sym (fund_failed (i + 1) x c.in-err-funds.field-0.0 met)) in
-    let checks : fund_checks 1 xs ≡ Err c.in-err-funds.field-0.0 = sym c.loop-i.invariant.1 ∙ checks_more xs i (i + 1) c.loop-i-test.true ∙ failed in
+    let met = c.in_err-funds.ensures.answer ∙ ap (λ y. placed (i + 1) (fund_of y)) same in
+    let failed = then_fails (placed (i + 1) (fund_check x)) (fund_checks (i + 1 + 1) (drop (i + 1) xs)) c.in_err-funds.field-0.0 (sym (fund_failed (i + 1) x c.in_err-funds.field-0.0 met)) in
+    let checks : fund_checks 1 xs ≡ Err c.in_err-funds.field-0.0 = sym c.loop-i.invariant.1 ∙ checks_more xs i (i + 1) c.loop-i-test.true ∙ failed in
     record {
-      answer = p.1 ∙ ap Err p.2 ∙ sym (then_fails (fund_checks 1 xs) (Ok (padded xs)) c.in-err-funds.field-0.0 (sym checks));
-      limited = IfOk-from_err c.from-residual.result _ c.from-residual.ensures.0;
+      answer = p.1 ∙ ap Err p.2 ∙ sym (then_fails (fund_checks 1 xs) (Ok (padded xs)) c.in_err-funds.field-0.0 (sym checks));
+      limited = IfOk-from_err c.from_residual.result _ c.from_residual.ensures.0;
     }
 
 pub loop-i-preserved : goal.loop-i-preserved
@@ -31,15 +31,15 @@ loop-i-preserved c =
     let xs = c.args.figures.now in
     let i = c.loop-i.i in
     let x = get_or xs i (pos 0) in
-    let a = c.in-ok-funds.field-0 in
+    let a = c.in_ok-funds.field-0 in
     let same : to_z w64 (of_z w64 x) ≡ x = search rules in
-    let met = fund_passed (i + 1) x a (c.in-ok-funds.ensures.answer ∙ ap (λ y. placed (i + 1) (fund_of y)) same) in
+    let met = fund_passed (i + 1) x a (c.in_ok-funds.ensures.answer ∙ ap (λ y. placed (i + 1) (fund_of y)) same) in
     let within : i < length xs = c.loop-i-test.true in
     let few = c.requires in (
       omega arith,
       sym (ap (λ r. r then fund_checks (i + 1 + 1) (drop (i + 1) xs)) met.0) ∙ sym (checks_more xs i (i + 1) within) ∙ c.loop-i.invariant.1,
       ap (λ ys. set ys i a) c.loop-i.invariant.2 ∙ pad_more nat_abs 0 (pos 0) xs i a within (omega arith) met.1,
-      each_set (λ y. y ≤ fund_limit) 0 c.loop-i.funds i a c.in-ok-funds.ensures.limited c.loop-i.invariant.3,
+      each_set (λ y. y ≤ fund_limit) 0 c.loop-i.funds i a c.in_ok-funds.ensures.limited c.loop-i.invariant.3,
     )
 
 pub returns : goal.returns

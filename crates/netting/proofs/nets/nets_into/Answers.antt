@@ -9,7 +9,7 @@ use Rattle.netting.proofs.nets.nets_into.Goals as goal
 pub loop-a-preserved : goal.loop-a-preserved
 loop-a-preserved g c k d h =
     let f = net_of g.F.Figure.group c.args.entries.now in
-    rw c.net-of.ensures (fill_by_more f c.loop-a.nets c.loop-a.a d (omega arith) (λ j l. c.loop-a.invariant j d l) k h)
+    rw c.net_of.ensures (fill_by_more f c.loop-a.nets c.loop-a.a d (omega arith) (λ j l. c.loop-a.invariant j d l) k h)
 
 pub returns : goal.returns
 returns g c =

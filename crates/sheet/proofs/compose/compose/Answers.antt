@@ -43,7 +43,7 @@ loop-member-preserved c =
 pub line-requires-2 : goal.line-requires-2
 line-requires-2 c =
     let few = orders_le c.args.nets.now in
-    let short = length-decimal-le 2 c.count-orders.result (omega arith) (omega arith) (omega arith) in
+    let short = length-decimal-le 2 c.count_orders.result (omega arith) (omega arith) (omega arith) in
     omega arith
 
 pub returns : goal.returns
@@ -53,5 +53,5 @@ returns c =
     let page = on_page c.loop-member.page in
     let session = ended (codes "session=" ++ decimal c.args.session) in
     let none = rest_all nets c.loop-member.member c.loop-member-test.false in
-    let last = c.line-2.ensures.text ∙ ap (λ n. page ++ ended (codes "end=" ++ decimal n)) c.count-orders.ensures.answer in
+    let last = c.line-2.ensures.text ∙ ap (λ n. page ++ ended (codes "end=" ++ decimal n)) c.count_orders.ensures.answer in
     finish page (on_page c.line-2.new.self) session (all_lines 0 nets) (codes "end=" ++ decimal (orders nets)) last (ap (λ zs. page ++ zs) (sym none) ∙ c.loop-member.invariant.1)

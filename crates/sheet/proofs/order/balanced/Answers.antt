@@ -11,4 +11,4 @@ zero_test (pos (suc n)) f = ne_eqb (suc n) 0 (λ e. omega arith)
 zero_test (negsuc n) f = ne_eqb (2 ^ 128 - suc n) 0 (λ e. omega (arith, f.sfits))
 
 pub returns : goal.returns
-returns c = zero_test c.sum-nets.result (record { sfits = c.sum-nets.type-inv }) ∙ ap nil c.sum-nets.ensures
+returns c = zero_test c.sum_nets.result (record { sfits = c.sum_nets.type_inv }) ∙ ap nil c.sum_nets.ensures

@@ -10,10 +10,10 @@ use Rattle.sheet.proofs.reader.read.Goals.{then-b-eq10+in-Some, else-b-eq10}
 pub loop-i-init : goal.loop-i-init
 loop-i-init c = rw c.start-reading.ensures (before_start c.args.bytes.now)
 
-pub returns-in-default : goal.returns-in-default
-returns-in-default c =
+pub returns-in_default : goal.returns-in_default
+returns-in_default c =
     let bytes = c.args.bytes.now in
-    let e : c.bad-line.result ≡ reads bytes = c.bad-line.ensures ∙ bad_on bytes c.loop-i.start c.loop-i.i c.loop-i.line c.loop-i.reading c.loop-i-test.true c.loop-i.invariant c.if-b-eq10.true c.in-default.ensures in
+    let e : c.bad_line.result ≡ reads bytes = c.bad_line.ensures ∙ bad_on bytes c.loop-i.start c.loop-i.i c.loop-i.line c.loop-i.reading c.loop-i-test.true c.loop-i.invariant c.if-b-eq10.true c.in_default.ensures in
     record { answer = e; accepts = subst (Accepts bytes) (sym e) (accepts bytes); front = front_decides bytes }
 
 pub loop-i-preserved : goal.loop-i-preserved

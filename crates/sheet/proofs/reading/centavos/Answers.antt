@@ -4,13 +4,13 @@ use Rattle.sheet.specs.Numerals.{onward}
 use Rattle.sheet.proofs.Fields.{field_some}
 use Rattle.sheet.proofs.reading.centavos.Goals as goal
 
-most : (c : goal.In-ok-n) → c.in-ok-n.n ≤ 200000000000000000
-most c = (field_some (codes "centavos=") 1 200000000000000000 c.args.line.now c.in-ok-n.n (omega arith) (sym c.in-ok-n.ensures)).2
+most : (c : goal.In-ok-n) → c.in_ok-n.n ≤ 200000000000000000
+most c = (field_some (codes "centavos=") 1 200000000000000000 c.args.line.now c.in_ok-n.n (omega arith) (sym c.in_ok-n.ensures)).2
 
-pub overflow-cast-result : goal.overflow-cast-result
-overflow-cast-result c = record { sfits = omega (arith, most c) }
+pub overflow_cast-result : goal.overflow_cast-result
+overflow_cast-result c = record { sfits = omega (arith, most c) }
 
 pub returns : goal.returns
 returns c =
     let small = most c in
-    record { answer = ap Some (omega (arith, ints)) ∙ ap (λ o. onward o (λ n. Some (pos n))) c.in-ok-n.ensures; bound = omega (arith, ints) }
+    record { answer = ap Some (omega (arith, ints)) ∙ ap (λ o. onward o (λ n. Some (pos n))) c.in_ok-n.ensures; bound = omega (arith, ints) }

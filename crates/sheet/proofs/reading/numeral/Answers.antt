@@ -18,18 +18,18 @@ enough low n h = rw (le-leb low n h)
 little : (low n : ℕ) → n < low → onward (Some n) (λ n. cond (leb low n) (Some n) None) ≡ None
 little low n h = rw (lt-leb low n h)
 
-pub returns-then-not-is-trim : goal.returns-then-not-is-trim
-returns-then-not-is-trim c = untrim c.args.low c.args.high c.args.digits.now c.if-not-is-trim.ensures
+pub returns-then-not-is_trim : goal.returns-then-not-is_trim
+returns-then-not-is_trim c = untrim c.args.low c.args.high c.args.digits.now c.if-not-is_trim.ensures
 
-pub returns-in-err-n : goal.returns-in-err-n
-returns-in-err-n c = let t = trimmed c.args.low c.args.high c.args.digits.now None c.if-not-is-trim.ensures c.in-err-n.ensures in cc
+pub returns-in_err-n : goal.returns-in_err-n
+returns-in_err-n c = let t = trimmed c.args.low c.args.high c.args.digits.now None c.if-not-is_trim.ensures c.in_err-n.ensures in cc
 
 pub returns-then-low-n : goal.returns-then-low-n
 returns-then-low-n c =
-    let t = trimmed c.args.low c.args.high c.args.digits.now (Some c.in-ok-n.n) c.if-not-is-trim.ensures c.in-ok-n.ensures in
-    cc (enough c.args.low c.in-ok-n.n c.if-low-n.true)
+    let t = trimmed c.args.low c.args.high c.args.digits.now (Some c.in_ok-n.n) c.if-not-is_trim.ensures c.in_ok-n.ensures in
+    cc (enough c.args.low c.in_ok-n.n c.if-low-n.true)
 
 pub returns-else-low-n : goal.returns-else-low-n
 returns-else-low-n c =
-    let t = trimmed c.args.low c.args.high c.args.digits.now (Some c.in-ok-n.n) c.if-not-is-trim.ensures c.in-ok-n.ensures in
-    cc (little c.args.low c.in-ok-n.n c.if-low-n.false)
+    let t = trimmed c.args.low c.args.high c.args.digits.now (Some c.in_ok-n.n) c.if-not-is_trim.ensures c.in_ok-n.ensures in
+    cc (little c.args.low c.in_ok-n.n c.if-low-n.false)

@@ -7,17 +7,17 @@ use Rattle.sheet.proofs.Numerals.{no_digits, too_large, its_value, value_grows, 
 use Rattle.sheet.proofs.reading.value.Goals as goal
 use Rattle.sheet.proofs.reading.value.Goals.{After-from, at·returns-then-n-high, at·loop-b-again}
 
-pub returns-then-not-is-ascii-digit : goal.returns-then-not-is-ascii-digit
-returns-then-not-is-ascii-digit c =
+pub returns-then-not-is_ascii_digit : goal.returns-then-not-is_ascii_digit
+returns-then-not-is_ascii_digit c =
     let i = c.loop-b.b-index in
     let ds = c.args.digits.now in
-    no_digits c.args.high ds (sym c.loop-b.invariant.1 ∙ at_drop_more all_ascii_digits ds i 0 c.loop-b-test.true ∙ ap (λ b. b && all_ascii_digits (drop (i + 1) ds)) (sym c.if-not-is-ascii-digit.ensures.value))
+    no_digits c.args.high ds (sym c.loop-b.invariant.1 ∙ at_drop_more all_ascii_digits ds i 0 c.loop-b-test.true ∙ ap (λ b. b && all_ascii_digits (drop (i + 1) ds)) (sym c.if-not-is_ascii_digit.ensures.value))
 
 -- the value, from the next turn on
 next : (c : After-from) → digits_value_after 10 (c.loop-b.n * 10 + c.from.result) (drop (c.loop-b.b-index + 1) c.args.digits.now) ≡ digits_value 10 c.args.digits.now
 next c =
     ap (λ d. digits_value_after 10 (c.loop-b.n * 10 + d) (drop (c.loop-b.b-index + 1) c.args.digits.now)) c.from.ensures
-    ∙ value-more c.loop-b.n c.args.digits.now c.loop-b.b-index c.loop-b-test.true c.if-not-is-ascii-digit.ensures.value
+    ∙ value-more c.loop-b.n c.args.digits.now c.loop-b.b-index c.loop-b-test.true c.if-not-is_ascii_digit.ensures.value
     ∙ c.loop-b.invariant.2
 
 pub returns-then-n-high : goal.returns-then-n-high
@@ -27,7 +27,7 @@ returns-then-n-high c =
 
 pub loop-b-preserved : goal.loop-b-preserved
 loop-b-preserved c =
-    (c.if-n-high.false, digits_more c.args.digits.now c.loop-b.b-index c.loop-b-test.true c.if-not-is-ascii-digit.ensures.value ∙ c.loop-b.invariant.1, next (at·loop-b-again c).After-from)
+    (c.if-n-high.false, digits_more c.args.digits.now c.loop-b.b-index c.loop-b-test.true c.if-not-is_ascii_digit.ensures.value ∙ c.loop-b.invariant.1, next (at·loop-b-again c).After-from)
 
 pub returns : goal.returns
 returns c =

@@ -5,14 +5,14 @@ use Rattle.book.proofs.Accepted.{offered_ok}
 use Rattle.book.proofs.Sound.{each_push, rising-more}
 use Rattle.book.proofs.book.Book.accept.Goals as goal
 
-pub invariant-of-self : goal.invariant-of-self
-invariant-of-self c =
+pub invariant_of-self : goal.invariant_of-self
+invariant_of-self c =
     let b = c.args.self.now in
     let ss = vec_items b.table.swaps in
-    let ys = vec_items c.push-reserved.new.self in
-    let s = c.in-ok-swap.swap in
-    let ok = offered_ok (reading b) c.args.offer.now s (sym c.in-ok-swap.ensures) in
-    let items = c.push-reserved.ensures.items in
+    let ys = vec_items c.push_reserved.new.self in
+    let s = c.in_ok-swap.swap in
+    let ok = offered_ok (reading b) c.args.offer.now s (sym c.in_ok-swap.ensures) in
+    let items = c.push_reserved.ensures.items in
     let long = simp length-append at (ap length items) in
     let next = ok.next in
     let left = ok.left in
@@ -29,7 +29,7 @@ invariant-of-self c =
               (
                 omega arith,
                 (
-                  omega (arith, c.push-reserved.ensures.capacity),
+                  omega (arith, c.push_reserved.ensures.capacity),
                   (
                     omega arith,
                     (

@@ -4,13 +4,13 @@ use Rattle.book.proofs.Seats.{opening_ok, seats_written}
 use Rattle.book.proofs.Sound.{each_none}
 use Rattle.book.proofs.book.Book.open.Goals as goal
 
-pub invariant-of-self : goal.invariant-of-self
-invariant-of-self c =
+pub invariant_of-self : goal.invariant_of-self
+invariant_of-self c =
     let b = c.args.self.now in
-    let m = c.in-ok-members.members in
+    let m = c.in_ok-members.members in
     let ss = vec_items c.clear.new.self in
     let none = c.clear.ensures.items in
-    let opened = opening_ok _ c.args.accounts.now m (sym c.in-ok-members.ensures) in
+    let opened = opening_ok _ c.args.accounts.now m (sym c.in_ok-members.ensures) in
     let seats = seats_written m c.args.accounts.now (vec_items c.seat.new.seats) c.seat.ensures.items opened in (
       opened.roll,
       (

@@ -6,8 +6,8 @@ use Rattle.book.proofs.Edits.{answered_at, after_at}
 use Rattle.book.proofs.Events.{steady}
 use Rattle.book.proofs.book.Book.step.Goals as goal
 
-pub invariant-of-self : goal.invariant-of-self
-invariant-of-self c =
+pub invariant_of-self : goal.invariant_of-self
+invariant_of-self c =
     let b = c.args.self.now in
     let ss = vec_items b.table.swaps in
     let i = c.args.i in

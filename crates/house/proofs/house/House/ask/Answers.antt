@@ -11,7 +11,7 @@ pub returns : goal.returns
 returns c =
     let h = holding c.args.self.now in
     let wait = check (settled h.orders) SettlementUnderWay in
-    let through = ap is_ok c.in-ok-check-settled.ensures in
+    let through = ap is_ok c.in_ok-check_settled.ensures in
     let book = asked h.book c.args.request.now in
     record {
       answer = told wait book (λ _. tt) c.ask.result through c.ask.ensures.answer;

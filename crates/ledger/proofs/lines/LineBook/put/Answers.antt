@@ -4,7 +4,7 @@ use Rattle.ledger.specs.Lines.{undrawn, Fair}
 use Rattle.ledger.proofs.Limits.{each_set}
 use Rattle.ledger.proofs.lines.LineBook.put.Goals as goal
 
-pub invariant-of-self : goal.invariant-of-self
-invariant-of-self c =
+pub invariant_of-self : goal.invariant_of-self
+invariant_of-self c =
     let b = c.args.self.now in
     (length-set b.lines c.args.member _ ∙ b.wide, (each_set Fair (undrawn 0) b.lines c.args.member _ c.requires.fair b.fair, (b.ceiling, tt)))

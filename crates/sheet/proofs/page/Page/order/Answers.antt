@@ -38,5 +38,5 @@ returns c =
     let full-2 = length_push (decimal c.centavos.result) 10 in
     let alone = sym (append-nil (ended (codes "centavos=" ++ decimal (amount c.args.order)))) in
     let last = adds_same alone (adds_same (ap (λ n. ended (codes "centavos=" ++ decimal n)) c.centavos.ensures) c.line-2.ensures) in
-    let side = adds_same c.side-line.ensures.line c.put.ensures in
+    let side = adds_same c.side_line.ensures.line c.put.ensures in
     record { text = adds_then c.line.ensures (adds_then (adds_then side c.put-2.ensures) last); bound = omega arith }
