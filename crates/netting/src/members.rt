@@ -7,7 +7,7 @@ use crate::figure::Figure;
 
 // An account's net where the account is the member's, and nothing where it is another's.
 fn owned<F: Figure>(net: F, member: usize, whose: usize) -> F
-    ensures { result ≡ only group member net whose }
+    ensures { result ≡ only F.group member net whose }
 {
     if member == whose { net } else { F::nothing() }
 }
@@ -15,8 +15,8 @@ fn owned<F: Figure>(net: F, member: usize, whose: usize) -> F
 // What a member gets, out of the net and the member of each account.
 pub fn member_net<F: Figure>(nets: &[F], members: &[usize], whose: usize) -> F
     requires paired { length nets.now ≡ length members.now }
-    requires light { weighed group nets.now ≤ limit }
-    ensures { result ≡ member_net group members.now (λ a. slice_index_or nets.now a group.none) whose }
+    requires light { weighed F.group nets.now ≤ limit }
+    ensures { result ≡ member_net F.group members.now (λ a. slice_index_or nets.now a F.group.none) whose }
 {
     let mut sum = F::nothing();
     for a in 0..members.len() {

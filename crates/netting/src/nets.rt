@@ -18,8 +18,8 @@ pub struct Entry<F> {
 impl<F: Figure> Entry<F> {
     // What the entry brings an account.
     pub fn share(&self, account: usize) -> F
-        requires { 2 * group.size self.now.figure ≤ limit }
-        ensures { result ≡ share_of group self.now account }
+        requires { 2 * F.group.size self.now.figure ≤ limit }
+        ensures { result ≡ share_of F.group self.now account }
     {
         let got = if self.long == account {
             self.figure
@@ -37,8 +37,8 @@ impl<F: Figure> Entry<F> {
 
 // What an account gets out of the entries.
 pub fn net_of<F: Figure>(entries: &[Entry<F>], account: usize) -> F
-    requires { 2 * weight group entries.now ≤ limit }
-    ensures { result ≡ net_of group entries.now account }
+    requires { 2 * weight F.group entries.now ≤ limit }
+    ensures { result ≡ net_of F.group entries.now account }
 {
     let mut sum = F::nothing();
     for e in entries {
@@ -49,10 +49,10 @@ pub fn net_of<F: Figure>(entries: &[Entry<F>], account: usize) -> F
 
 // Fills the places with the nets of the accounts from 0 on. They add up to nothing where no entry names an account without a place.
 pub fn nets_into<F: Figure>(entries: &[Entry<F>], nets: &mut [F])
-    requires { 2 * weight group entries.now ≤ limit }
-    ensures each { (k : ℕ) (d : F) → k < length nets.new → slice_index_or nets.new k d ≡ net_of group entries.now k }
-    ensures balanced { All (Within (length nets.old)) entries.now → together group nets.new ≡ group.none }
-    ensures light { weighed group nets.new ≤ 2 * weight group entries.now }
+    requires { 2 * weight F.group entries.now ≤ limit }
+    ensures each { (k : ℕ) (d : F) → k < length nets.new → slice_index_or nets.new k d ≡ net_of F.group entries.now k }
+    ensures balanced { All (Within (length nets.old)) entries.now → together F.group nets.new ≡ F.group.none }
+    ensures light { weighed F.group nets.new ≤ 2 * weight F.group entries.now }
 {
     for a in 0..nets.len() {
         nets[a] = net_of(entries, a);
@@ -61,5 +61,5 @@ pub fn nets_into<F: Figure>(entries: &[Entry<F>], nets: &mut [F])
 
 // What netting promises of any figure.
 pub fn netting_laws<F: Figure>()
-    ensures { NettingLaws group }
+    ensures { NettingLaws F.group }
 {}
