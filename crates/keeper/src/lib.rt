@@ -20,7 +20,7 @@ pub trait Ordered: Copy {
 
 // Whether an entry goes ahead of one that is held: of two that are equal, the one that was put first stays ahead.
 fn goes_ahead<T: Ordered>(item: &T, held: &T) -> bool
-    ensures { result ≡ before item.now held.now }
+    ensures { result ≡ T.before item.now held.now }
 {
     item.comes_before(held)
 }
@@ -28,7 +28,7 @@ fn goes_ahead<T: Ordered>(item: &T, held: &T) -> bool
 // Where an entry goes among those that are held: after all that come before it or are equal.
 fn spot<T: Ordered>(held: &[T], item: &T) -> usize
     ensures within { result ≤ length held.now }
-    ensures splits { insert before item.now held.now ≡ take result held.now ++ item.now ∷ drop result held.now }
+    ensures splits { insert T.before item.now held.now ≡ take result held.now ++ item.now ∷ drop result held.now }
 {
     for (i, x) in held.iter().enumerate() {
         if goes_ahead(item, x) {
@@ -42,7 +42,7 @@ fn spot<T: Ordered>(held: &[T], item: &T) -> usize
 fn keep<T: Ordered>(places: &mut [T], filled: usize, item: T) -> usize
     requires { filled ≤ length places.old }
     ensures count { result ≡ min (filled + 1) (length places.old) }
-    ensures held { take result places.new ≡ take (length places.old) (insert before item (take filled places.old)) }
+    ensures held { take result places.new ≡ take (length places.old) (insert T.before item (take filled places.old)) }
     ensures rest { drop result places.new ≡ drop result places.old }
 {
     let from = spot(&places[0..filled], &item);
@@ -79,7 +79,7 @@ impl<'a, T: Ordered> Keeper<'a, T> {
     // Holds one entry more in its place, or lets the last go where there is no room.
     pub fn put(&mut self, item: T)
         requires { Sound self.old }
-        ensures put { Put before self.old item self.new }
+        ensures put { Put T.before self.old item self.new }
         ensures lent { self.new.places.ghost_name ≡ self.old.places.ghost_name }
     {
         let Keeper { places, filled } = self;
@@ -105,9 +105,9 @@ impl<'a, T: Ordered> Keeper<'a, T> {
 // Fills the places with the first of the items in order, and answers how many it filled; the others stay as they were.
 pub fn first_of<T: Ordered>(items: &[T], places: &mut [T]) -> usize
     ensures count { result ≡ min (length places.old) (length items.now) }
-    ensures held { take result places.new ≡ first_of before (length places.old) items.now }
+    ensures held { take result places.new ≡ first_of T.before (length places.old) items.now }
     ensures rest { drop result places.new ≡ drop result places.old }
-    ensures first { FirstOf before (length places.old) items.now (take result places.new) }
+    ensures first { FirstOf T.before (length places.old) items.now (take result places.new) }
 {
     let mut keeper = Keeper::new(places);
     for item in items {
@@ -118,5 +118,5 @@ pub fn first_of<T: Ordered>(items: &[T], places: &mut [T]) -> usize
 
 // Whatever was put, in whatever order, a keeper holds the first of it.
 pub fn keeper_laws<T: Ordered>()
-    ensures { KeeperLaws before }
+    ensures { KeeperLaws T.before }
 {}

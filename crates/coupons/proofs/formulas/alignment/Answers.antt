@@ -4,7 +4,7 @@ use Rattle.coupons.specs.Rounding.{rounded}
 use Rattle.coupons.proofs.Products.{two_in, three_in, ratio_small, fits_small, same_three}
 use Rattle.coupons.proofs.Rounds.{rounded-odd}
 use Rattle.coupons.proofs.formulas.alignment.Goals as goal
-use Rattle.coupons.proofs.formulas.alignment.Goals.{After-ratio, at·sub-result, at·returns}
+use Rattle.coupons.proofs.formulas.alignment.Goals.{After-ratio}
 
 pub ratio-requires : goal.ratio-requires
 ratio-requires c =
@@ -24,11 +24,11 @@ opposite_fits : (x : ℤ) → SFits w64 x → nat_abs x ≤ 1000000000000000000 
 opposite_fits x f h = fits_small (pos 0 -ℤ to_z w64 (of_z w64 x)) (omega (arith, ints))
 
 pub overflow_sub-result : goal.overflow_sub-result
-overflow_sub-result c = opposite_fits c.ratio.result (record { sfits = c.ratio.type_inv }) (small (at·sub-result c).After-ratio)
+overflow_sub-result c = opposite_fits c.ratio.result (record { sfits = c.ratio.type_inv }) (small (goal.at.overflow_sub-result c).After-ratio)
 
 pub returns : goal.returns
 returns c =
-    let here = (at·returns c).After-ratio in
+    let here = (goal.at.returns c).After-ratio in
     let few = small here in
     let e = opposite c.ratio.result (record { sfits = c.ratio.type_inv }) few in
     record { answer = e ∙ ap neg_ℤ (gain here) ∙ sym (rounded-odd (c.args.npv *ℤ c.args.overnight *ℤ c.args.days) 36000000 (omega arith)); bound = subst (λ y. nat_abs y ≤ 1000000000000000000) (sym e) (omega (arith, ints)) }

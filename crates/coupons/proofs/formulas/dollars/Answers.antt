@@ -5,7 +5,7 @@ use Rattle.coupons.specs.Rounding.{rounded}
 use Rattle.coupons.proofs.Products.{mul_small, fits_two, same_two, same_three}
 use Rattle.coupons.proofs.Rounds.{rounded_bound}
 use Rattle.coupons.proofs.formulas.dollars.Goals as goal
-use Rattle.coupons.proofs.formulas.dollars.Goals.{After-cents, at·mul-cents, at·rounded-requires, at·returns}
+use Rattle.coupons.proofs.formulas.dollars.Goals.{After-cents}
 
 small : (c : After-cents) → nat_abs (c.cents.result *ℤ c.args.trm) ≤ 10166666667 * 2000000
 small c = mul_small c.cents.result c.args.trm 10166666667 2000000 c.cents.ensures.bound c.requires.trm
@@ -17,17 +17,17 @@ dividend : (c : After-cents) → to_z w64 (of_z w64 (to_z w64 (of_z w64 c.cents.
 dividend c = to_z-of_z w64 _ (fits c) ∙ same_two c.cents.result c.args.trm (record { sfits = c.cents.type_inv }) c.ranges.trm
 
 pub overflow_mul-cents : goal.overflow_mul-cents
-overflow_mul-cents c = fits (at·mul-cents c).After-cents
+overflow_mul-cents c = fits (goal.at.overflow_mul-cents c).After-cents
 
 pub rounded-requires : goal.rounded-requires
 rounded-requires c =
-    let here = (at·rounded-requires c).After-cents in
+    let here = (goal.at.rounded-requires c).After-cents in
     let bound = small here in
     record { divisor = omega arith; dividend = subst (λ y. nat_abs y ≤ 9000000000000000000) (sym (dividend here)) (omega arith) }
 
 pub returns : goal.returns
 returns c =
-    let here = (at·returns c).After-cents in
+    let here = (goal.at.returns c).After-cents in
     let bound = small here in
     let z = c.cents.result *ℤ c.args.trm in
     let in-centavos = to_z-of_z w64 c.rounded.result (record { sfits = c.rounded.type_inv }) ∙ c.rounded.ensures.answer ∙ ap (λ y. rounded y 100) (dividend here) in

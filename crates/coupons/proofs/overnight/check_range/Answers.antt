@@ -6,9 +6,9 @@ use Rattle.refusal.specs.declared.Refusal.TheVariants.{ListLength}
 use Rattle.std.proofs.lemmas.Int.{ints, to_z-of_z}
 use Rattle.coupons.proofs.Products.{fits_small}
 use Rattle.coupons.proofs.overnight.check_range.Goals as goal
-use Rattle.coupons.proofs.overnight.check_range.Goals.{In-ok-demand, at·sub-len, at·returns}
+use Rattle.coupons.proofs.overnight.check_range.Goals.{In_ok-demand}
 
-counted : (c : In-ok-demand) → within (pos 1) (pos 366) c.args.count ≡ true
+counted : (c : In_ok-demand) → within (pos 1) (pos 366) c.args.count ≡ true
 counted c = within_same _ _ _ _ _ _ refl refl (sym (to_z-of_z w64 c.args.count c.ranges.count)) ∙ sym c.inside.ensures ∙ check_passed _ _ (ap is_ok c.in_ok-demand.ensures)
 
 -- what is left of the list, in the machine
@@ -20,12 +20,12 @@ rest_is len count short low high f = to_z-of_z w64 _ (rest_fits len count short 
 
 pub overflow_sub-len : goal.overflow_sub-len
 overflow_sub-len c =
-    let h = counted (at·sub-len c).In-ok-demand in
+    let h = counted (goal.at.overflow_sub-len c).In_ok-demand in
     rest_fits c.args.len c.args.count c.requires (within_low _ _ _ h) (within_high _ _ _ h) c.ranges.count
 
 pub returns : goal.returns
 returns c =
-    let h = counted (at·returns c).In-ok-demand in
+    let h = counted (goal.at.returns c).In_ok-demand in
     let len = c.args.len in
     let count = c.args.count in
     let first = c.args.first in

@@ -4,9 +4,9 @@ use Rattle.coupons.specs.Overnight.{Good}
 use Rattle.coupons.proofs.Days.{days_good, few_same}
 use Rattle.coupons.proofs.Products.{same_size}
 use Rattle.coupons.proofs.overnight.overnight.Goals as goal
-use Rattle.coupons.proofs.overnight.overnight.Goals.{In-ok-days, at·factor-of-requires, at·points-requires, at·simple-requires}
+use Rattle.coupons.proofs.overnight.overnight.Goals.{In_ok-days}
 
-good : (c : In-ok-days) → Good c.args.observations.now × ((pos 0 +ℤ pos (length c.args.observations.now)) ≤ℤ c.in_ok-days.days) × (c.in_ok-days.days ≤ℤ pos 366)
+good : (c : In_ok-days) → Good c.args.observations.now × ((pos 0 +ℤ pos (length c.args.observations.now)) ≤ℤ c.in_ok-days.days) × (c.in_ok-days.days ≤ℤ pos 366)
 good c = days_good c.args.observations.now 1 (pos 0) c.in_ok-days.days (omega (arith, ints)) (omega (arith, ints)) (sym c.in_ok-days.ensures)
 
 -- a figure in the machine, within its limits
@@ -14,11 +14,11 @@ low_same : (x a : ℤ) (m : ℤ) → nat_abs m ≤ 1000000000000 → pos 0 ≤�
 low_same x a m small some low high = omega (arith, ints)
 
 pub factor_of-requires : goal.factor_of-requires
-factor_of-requires c = record { few = c.requires.few; good = (good (at·factor-of-requires c).In-ok-days).0 }
+factor_of-requires c = record { few = c.requires.few; good = (good (goal.at.factor_of-requires c).In_ok-days).0 }
 
 pub points-requires : goal.points-requires
 points-requires c =
-    let g = good (at·points-requires c).In-ok-days in
+    let g = good (goal.at.points-requires c).In_ok-days in
     let some = c.requires.some in
     let least = g.1 in
     let most = g.2 in
@@ -31,7 +31,7 @@ points-requires c =
 
 pub simple-requires : goal.simple-requires
 simple-requires c =
-    let g = good (at·simple-requires c).In-ok-days in
+    let g = good (goal.at.simple-requires c).In_ok-days in
     let some = c.requires.some in
     let least = g.1 in
     let most = g.2 in

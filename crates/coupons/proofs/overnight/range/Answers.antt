@@ -4,9 +4,9 @@ use Rattle.std.proofs.lemmas.Int.{ints, to_z-of_z}
 use Rattle.coupons.specs.Overnight.{range_checks}
 use Rattle.coupons.proofs.Passed.{range_passed}
 use Rattle.coupons.proofs.overnight.range.Goals as goal
-use Rattle.coupons.proofs.overnight.range.Goals.{In-ok-check-range, at·cast-start, at·cast-result, at·add-result, at·returns}
+use Rattle.coupons.proofs.overnight.range.Goals.{In_ok-check_range}
 
-passed : (c : In-ok-check-range) → true ≡ is_ok (range_checks c.args.len c.args.first c.args.count)
+passed : (c : In_ok-check_range) → true ≡ is_ok (range_checks c.args.len c.args.first c.args.count)
 passed c =
     ap is_ok c.in_ok-check_range.ensures
     ∙ ap (λ f. is_ok (range_checks c.args.len f (to_z w64 (of_z w64 c.args.count)))) (to_z-of_z w64 c.args.first c.ranges.first)
@@ -14,13 +14,13 @@ passed c =
 
 pub overflow_cast-start : goal.overflow_cast-start
 overflow_cast-start c =
-    let p = range_passed c.args.len c.args.first c.args.count (passed (at·cast-start c).In-ok-check-range) in
+    let p = range_passed c.args.len c.args.first c.args.count (passed (goal.at.overflow_cast-start c).In_ok-check_range) in
     let low = p.2 in
     (grind (arith, ints), omega (arith, ints))
 
 pub overflow_cast-result : goal.overflow_cast-result
 overflow_cast-result c =
-    let p = range_passed c.args.len c.args.first c.args.count (passed (at·cast-result c).In-ok-check-range) in
+    let p = range_passed c.args.len c.args.first c.args.count (passed (goal.at.overflow_cast-result c).In_ok-check_range) in
     let low = p.0 in
     (grind (arith, ints), omega (arith, ints))
 
@@ -35,12 +35,12 @@ module _ (len : ℕ) (first count : ℤ) (short : len < 1000000000000000000) (so
   most : nat_abs count ≤ 366
   most = omega (arith, ints)
 
-same : (c : In-ok-check-range) → (nat_abs (to_z w64 (of_z w64 c.args.first)) ≡ nat_abs c.args.first) × (nat_abs (to_z w64 (of_z w64 c.args.count)) ≡ nat_abs c.args.count)
+same : (c : In_ok-check_range) → (nat_abs (to_z w64 (of_z w64 c.args.first)) ≡ nat_abs c.args.first) × (nat_abs (to_z w64 (of_z w64 c.args.count)) ≡ nat_abs c.args.count)
 same c = (ap nat_abs (to_z-of_z w64 c.args.first c.ranges.first), ap nat_abs (to_z-of_z w64 c.args.count c.ranges.count))
 
 pub overflow_add-result : goal.overflow_add-result
 overflow_add-result c =
-    let here = (at·add-result c).In-ok-check-range in
+    let here = (goal.at.overflow_add-result c).In_ok-check_range in
     let p = range_passed c.args.len c.args.first c.args.count (passed here) in
     let s = same here in
     let a = s.0 in
@@ -51,7 +51,7 @@ overflow_add-result c =
 
 pub returns : goal.returns
 returns c =
-    let here = (at·returns c).In-ok-check-range in
+    let here = (goal.at.returns c).In_ok-check_range in
     let p = range_passed c.args.len c.args.first c.args.count (passed here) in
     let s = same here in
     let a = s.0 in

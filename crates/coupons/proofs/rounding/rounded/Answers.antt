@@ -5,7 +5,7 @@ use Rattle.coupons.specs.Rounding.{rounded, Nearest}
 use Rattle.coupons.proofs.Products.{fits_small}
 use Rattle.coupons.proofs.Rounds.{round_up, round_down, round_flat, rounded-odd, rounded-nearest, quot-size}
 use Rattle.coupons.proofs.rounding.rounded.Goals as goal
-use Rattle.coupons.proofs.rounding.rounded.Goals.{After-divided-quotient, at·add-result, at·sub-result, at·returns-then-rest-divisor, at·returns-then-rest-divisor-2, at·returns-else-rest-divisor-2}
+use Rattle.coupons.proofs.rounding.rounded.Goals.{After-divided-quotient}
 
 quotient : (c : After-divided-quotient) → c.divided-quotient.result.0 ≡ quot_z c.args.dividend (pos c.args.divisor)
 quotient c = c.divided-quotient.ensures.quotient ∙ ap (λ z. quot_z z (pos c.args.divisor)) (to_z-of_z w64 c.args.dividend c.ranges.dividend)
@@ -33,10 +33,10 @@ down : (q : ℤ) → nat_abs q ≤ 9000000000000000000 → to_z w64 (of_z w64 (t
 down q h = to_z-of_z w64 _ (down_fits q h) ∙ ap (λ x. x -ℤ pos 1) (same q h)
 
 pub overflow_add-result : goal.overflow_add-result
-overflow_add-result c = up_fits c.divided-quotient.result.0 (small (at·add-result c).After-divided-quotient)
+overflow_add-result c = up_fits c.divided-quotient.result.0 (small (goal.at.overflow_add-result c).After-divided-quotient)
 
 pub overflow_sub-result : goal.overflow_sub-result
-overflow_sub-result c = down_fits c.divided-quotient.result.0 (small (at·sub-result c).After-divided-quotient)
+overflow_sub-result c = down_fits c.divided-quotient.result.0 (small (goal.at.overflow_sub-result c).After-divided-quotient)
 
 pub returns-then-rest-divisor : goal.returns-then-rest-divisor
 returns-then-rest-divisor c =
@@ -44,7 +44,7 @@ returns-then-rest-divisor c =
     let z = c.args.dividend in
     let q = c.divided-quotient.result.0 in
     let s = c.divided-quotient.result.1 in
-    let here = (at·returns-then-rest-divisor c).After-divided-quotient in
+    let here = (goal.at.returns-then-rest-divisor c).After-divided-quotient in
     let bound = small here in
     let whole = quotient here in
     let half : pos d ≤ℤ (s +ℤ s) = grind (arith, ints) in
@@ -58,7 +58,7 @@ returns-then-rest-divisor-2 c =
     let z = c.args.dividend in
     let q = c.divided-quotient.result.0 in
     let s = c.divided-quotient.result.1 in
-    let here = (at·returns-then-rest-divisor-2 c).After-divided-quotient in
+    let here = (goal.at.returns-then-rest-divisor-2 c).After-divided-quotient in
     let bound = small here in
     let whole = quotient here in
     let half : (s +ℤ s) ≤ℤ neg_ℤ (pos d) = grind (arith, ints) in
@@ -72,7 +72,7 @@ returns-else-rest-divisor-2 c =
     let z = c.args.dividend in
     let q = c.divided-quotient.result.0 in
     let s = c.divided-quotient.result.1 in
-    let here = (at·returns-else-rest-divisor-2 c).After-divided-quotient in
+    let here = (goal.at.returns-else-rest-divisor-2 c).After-divided-quotient in
     let bound = small here in
     let whole = quotient here in
     let high : (s +ℤ s) <ℤ pos d = grind (arith, ints) in
