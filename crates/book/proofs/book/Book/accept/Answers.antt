@@ -16,37 +16,17 @@ invariant_of-self c =
     let long = simp length-append at (ap length items) in
     let next = ok.next in
     let left = ok.left in
-    let room = ok.room in (
-      b.roll,
-      (
-        b.narrow,
-        (
-          b.seated,
-          (
-            b.places,
-            (
-              b.early,
-              (
-                omega arith,
-                (
-                  omega (arith, c.push_reserved.ensures.capacity),
-                  (
-                    omega arith,
-                    (
-                      each_push (Between (length (vec_items b.accounts))) ss ys s items b.between ok.between,
-                      (
-                        each_push Limited ss ys s items b.limited ok.limited,
-                        (
-                          each_push (Due b.closed) ss ys s items b.due ok.due,
-                          (rising-more b.given ss ys s items b.ordered (omega arith), tt),
-                        ),
-                      ),
-                    ),
-                  ),
-                ),
-              ),
-            ),
-          ),
-        ),
-      ),
-    )
+    let room = ok.room in record {
+      roll = b.roll;
+      narrow = b.narrow;
+      seated = b.seated;
+      places = b.places;
+      early = b.early;
+      issued = omega arith;
+      room = omega (arith, c.push_reserved.ensures.capacity);
+      few = omega arith;
+      between = each_push (Between (length (vec_items b.accounts))) ss ys s items b.between ok.between;
+      limited = each_push Limited ss ys s items b.limited ok.limited;
+      due = each_push (Due b.closed) ss ys s items b.due ok.due;
+      ordered = rising-more b.given ss ys s items b.ordered (omega arith);
+    }

@@ -13,7 +13,20 @@ invariant_of-self c =
     let i = c.args.i in
     let still = steady (length (vec_items b.accounts)) b.closed b.given ss (vec_items c.change.new.self.swaps) i c.args.event (after_event (get_or ss i blank).state c.args.event) refl b.between b.limited b.due b.ordered c.requires.within c.requires.timely c.change.ensures.after in
     let long = still.long in
-    (b.roll, (b.narrow, (b.seated, (b.places, (b.early, (b.issued, (omega (arith, c.change.ensures.capacity), (omega arith, (still.between, (still.limited, (still.due, (still.ordered, tt))))))))))))
+    record {
+      roll = b.roll;
+      narrow = b.narrow;
+      seated = b.seated;
+      places = b.places;
+      early = b.early;
+      issued = b.issued;
+      room = omega (arith, c.change.ensures.capacity);
+      few = omega arith;
+      between = still.between;
+      limited = still.limited;
+      due = still.due;
+      ordered = still.ordered;
+    }
 
 pub returns : goal.returns
 returns c =
