@@ -1,4 +1,5 @@
-// The formulas for a C host, on plain numbers. They leave aside who pays, and answer -2^63 where a figure is outside its limits.
+// The formulas that a C host calls, on plain numbers. They leave aside who pays, and answer -2^63 where a figure is outside its limits.
+// The crate coupons_c exports them.
 ghost use Rattle.std.specs.Prelude.{◌≡◌, false, negsuc, is_ok};
 ghost use Rattle.coupons.specs.Formulas.{simple, dollars, alignment};
 ghost use Rattle.coupons.specs.Limits.{simple_checks, dollar_checks, alignment_checks, exported};
@@ -6,8 +7,7 @@ ghost use Rattle.coupons.specs.Limits.{simple_checks, dollar_checks, alignment_c
 use crate::formulas::{alignment, dollars, simple};
 use crate::limits::{check_alignment, check_dollars, check_simple};
 
-#[unsafe(no_mangle)]
-pub extern "C" fn runtsigo_fixed(millions: i64, rate: i64, days: i64) -> i64
+pub fn runtsigo_fixed(millions: i64, rate: i64, days: i64) -> i64
     ensures answer { result ≡ exported (simple_checks millions rate days) (simple millions rate days) }
     ensures refused { result ≡ negsuc 9223372036854775807 → is_ok (simple_checks millions rate days) ≡ false }
 {
@@ -17,16 +17,14 @@ pub extern "C" fn runtsigo_fixed(millions: i64, rate: i64, days: i64) -> i64
     }
 }
 
-#[unsafe(no_mangle)]
-pub extern "C" fn runtsigo_variable(millions: i64, rate: i64, days: i64) -> i64
+pub fn runtsigo_variable(millions: i64, rate: i64, days: i64) -> i64
     ensures answer { result ≡ exported (simple_checks millions rate days) (simple millions rate days) }
     ensures refused { result ≡ negsuc 9223372036854775807 → is_ok (simple_checks millions rate days) ≡ false }
 {
     runtsigo_fixed(millions, rate, days)
 }
 
-#[unsafe(no_mangle)]
-pub extern "C" fn runtsigo_dollars(thousands: i64, rate: i64, days: i64, trm: i64) -> i64
+pub fn runtsigo_dollars(thousands: i64, rate: i64, days: i64, trm: i64) -> i64
     ensures answer { result ≡ exported (dollar_checks thousands rate days trm) (dollars thousands rate days trm) }
     ensures refused { result ≡ negsuc 9223372036854775807 → is_ok (dollar_checks thousands rate days trm) ≡ false }
 {
@@ -36,8 +34,7 @@ pub extern "C" fn runtsigo_dollars(thousands: i64, rate: i64, days: i64, trm: i6
     }
 }
 
-#[unsafe(no_mangle)]
-pub extern "C" fn runtsigo_alignment(npv: i64, overnight: i64, days: i64) -> i64
+pub fn runtsigo_alignment(npv: i64, overnight: i64, days: i64) -> i64
     ensures answer { result ≡ exported (alignment_checks npv overnight days) (alignment npv overnight days) }
     ensures refused { result ≡ negsuc 9223372036854775807 → is_ok (alignment_checks npv overnight days) ≡ false }
 {
