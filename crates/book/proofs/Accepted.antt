@@ -1,5 +1,5 @@
 -- A swap that is accepted is as a live swap should be.
-use Rattle.std.proofs.Common.{◌≡◌, ℕ, ◌+◌, ◌<◌, ◌≤◌, Bool, true, false, not, eqb, ltb, List, length, ℤ, Ok, Err, sym, refl, ap, ◌∙◌, subst, arith}
+use Rattle.std.proofs.Common.{◌≡◌, ℕ, ◌+◌, ◌<◌, ◌≤◌, true, not, eqb, ltb, length, ℤ, Ok, refl, subst, arith}
 use Rattle.std.proofs.lemmas.Bool.Decides.{nat_tests}
 use Rattle.refusal.specs.declared.Refusal.TheVariants.{OutOfRange, SameAccount, Session, BookFull, NumbersUsedUp}
 use Rattle.refusal.specs.Checks.{check, count_of}
@@ -8,7 +8,7 @@ use Rattle.coupons.specs.declared.lines.Terms.{Terms}
 use Rattle.book.specs.declared.calls.Offer.{Offer}
 use Rattle.swaps.specs.declared.swap.Swap.{Swap}
 use Rattle.swaps.specs.declared.state.State.TheVariants.{Plain}
-use Rattle.swaps.specs.Swaps.{Between, Limited, Due, Modest, nominal, timely}
+use Rattle.swaps.specs.Swaps.{Between, Limited, Due, Modest, nominal}
 use Rattle.swaps.specs.Limits.{terms_of, amount_of}
 use Rattle.book.specs.Reading.{Reading}
 use Rattle.book.specs.Calls.{parties, figures_of, offered}

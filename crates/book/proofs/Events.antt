@@ -1,10 +1,10 @@
 -- What an ask or an answer finds, and what it keeps.
-use Rattle.std.proofs.Common.{◌≡◌, ℕ, suc, ◌+◌, ◌<◌, ◌≤◌, Bool, true, false, cond, not, ◌&&◌, eqb, ltb, leb, List, [], ◌∷◌, length, get_or, set, ℤ, nat_abs, Ok, Err, Result, sym, refl, ap, ◌∙◌, subst, arith}
+use Rattle.std.proofs.Common.{◌≡◌, ℕ, suc, ◌+◌, ◌<◌, ◌≤◌, Bool, true, false, cond, not, ◌&&◌, eqb, ltb, leb, List, [], ◌∷◌, length, get_or, ℤ, nat_abs, Ok, Err, Result, sym, refl, ap, subst, arith}
 use Rattle.std.proofs.lemmas.Bool.Decides.{nat_tests}
 use Rattle.std.proofs.lemmas.List.{get_or_default, length-set}
 use Rattle.refusal.specs.declared.Refusal.{Refusal}
 use Rattle.refusal.specs.declared.Refusal.TheVariants.{OutOfRange, Session, NoSuchSwap, NotParty, JustRegistered}
-use Rattle.refusal.specs.Checks.{check, count_of, ◌then◌}
+use Rattle.refusal.specs.Checks.{check, count_of}
 use Rattle.refusal.proofs.Then.{then_ok, into_ok, count_ok}
 use Rattle.book.specs.declared.calls.Request.{Request}
 use Rattle.book.specs.declared.calls.Reply.{Reply}

@@ -1,26 +1,22 @@
 -- The laws of the book.
-use Rattle.std.proofs.Common.{◌≡◌, ℕ, zero, suc, ◌+◌, ◌<◌, ◌≤◌, Bool, true, false, cond, not, eqb, List, [], ◌∷◌, ◌++◌, length, get_or, set, ℤ, pos, Ok, Err, Result, sym, refl, ap, ◌∙◌, subst, arith}
-use Rattle.std.proofs.lemmas.Int.{ints}
+use Rattle.std.proofs.Common.{◌≡◌, ℕ, zero, suc, ◌+◌, ◌<◌, ◌≤◌, Bool, true, false, cond, eqb, List, [], ◌∷◌, ◌++◌, length, get_or, ℤ, pos, Ok, Err, Result, refl, ap, ◌∙◌, subst, arith}
 use Rattle.std.proofs.lemmas.Bool.Decides.{nat_tests}
-use Rattle.std.proofs.lemmas.List.{get_or-set_same, get_or-set_other, length-set, set-set, set-get_or}
+use Rattle.std.proofs.lemmas.List.{get_or-set_same, get_or-set_other, length-set}
 use Rattle.refusal.specs.declared.Refusal.{Refusal}
-use Rattle.refusal.specs.declared.Refusal.TheVariants.{OutOfRange, NoSuchSwap, NotParty}
-use Rattle.refusal.specs.Checks.{check, count_of, ◌into◌}
-use Rattle.refusal.proofs.Then.{then_ok, into_ok, count_ok}
+use Rattle.refusal.specs.declared.Refusal.TheVariants.{NoSuchSwap}
+use Rattle.refusal.specs.Checks.{count_of}
+use Rattle.refusal.proofs.Then.{into_ok, count_ok}
 use Rattle.book.specs.declared.book.Book.{Book}
-use Rattle.book.specs.declared.calls.Offer.{Offer}
 use Rattle.book.specs.declared.calls.Request.{Request}
 use Rattle.book.specs.declared.calls.Reply.{Reply}
 use Rattle.swaps.specs.declared.state.State.{State}
-use Rattle.swaps.specs.declared.state.State.TheVariants.{Plain, Asked, Agreed}
 use Rattle.swaps.specs.declared.state.Event.{Event}
-use Rattle.swaps.specs.declared.state.Event.TheVariants.{Ask, Yes, No}
 use Rattle.swaps.specs.declared.swap.Swap.{Swap}
 use Rattle.swaps.specs.States.{after_event}
-use Rattle.swaps.specs.Swaps.{blank, rising, party}
+use Rattle.swaps.specs.Swaps.{blank, rising}
 use Rattle.book.specs.Reading.{Reading, reading}
 use Rattle.book.specs.Calls.{offered, asked, replied, after, taken, changed, with_state, place_from, found, ask_of, answer_of, asking, answering, stepped}
-use Rattle.book.specs.Laws.{Numbered, Call, accept, ask, answer, book_after, numbers_of, number_in, RisesFrom, OneChanged, BookLaws}
+use Rattle.book.specs.Laws.{Numbered, Call, accept, ask, answer, numbers_of, number_in, RisesFrom, OneChanged}
 use Rattle.book.proofs.Accepted.{offered_ok}
 use Rattle.book.proofs.Events.{place_within, found_within}
 

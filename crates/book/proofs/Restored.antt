@@ -1,5 +1,5 @@
 -- After an ask and a no, the book is what it was.
-use Rattle.std.proofs.Common.{◌≡◌, ℕ, zero, suc, ◌+◌, ◌<◌, Bool, true, false, cond, not, eqb, List, [], ◌∷◌, length, get_or, set, ℤ, Ok, Err, Result, sym, refl, ap, ◌∙◌, subst, arith}
+use Rattle.std.proofs.Common.{◌≡◌, ℕ, zero, suc, ◌+◌, ◌<◌, false, cond, not, eqb, List, [], ◌∷◌, length, get_or, set, ℤ, Ok, Err, Result, sym, refl, ap, ◌∙◌, arith}
 use Rattle.refusal.specs.declared.Refusal.{Refusal}
 use Rattle.std.proofs.lemmas.List.{get_or-set_same, set-set, set-get_or, get_or_default}
 use Rattle.refusal.specs.declared.Refusal.TheVariants.{OutOfRange, Session, NotParty, NoSuchSwap, JustRegistered}

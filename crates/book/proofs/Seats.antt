@@ -1,12 +1,12 @@
 -- The members of accounts, one after the other.
-use Rattle.std.proofs.Common.{◌≡◌, ℕ, zero, suc, ◌+◌, ◌<◌, ◌≤◌, true, leb, List, [], ◌∷◌, map, length, get_or, drop, ℤ, pos, nat_abs, Ok, Err, Result, sym, refl, ap, ◌∙◌, arith}
+use Rattle.std.proofs.Common.{◌≡◌, ℕ, zero, suc, ◌+◌, ◌<◌, ◌≤◌, true, leb, List, [], ◌∷◌, map, length, get_or, drop, ℤ, pos, nat_abs, Ok, Err, Result, sym, ap, ◌∙◌, arith}
 use Rattle.std.proofs.lemmas.List.{at_drop_more, length-map, get_or-map}
 use Rattle.std.proofs.lemmas.Int.{ints}
 use Rattle.std.proofs.lemmas.Bool.Decides.{nat_tests}
 use Rattle.refusal.specs.declared.Fault.{Fault}
 use Rattle.refusal.specs.declared.Refusal.{Refusal}
 use Rattle.refusal.specs.declared.Refusal.TheVariants.{OutOfRange}
-use Rattle.refusal.specs.Checks.{check, count_of, placed, raised, ◌into◌, ◌then◌}
+use Rattle.refusal.specs.Checks.{check, count_of, placed, raised, ◌into◌}
 use Rattle.refusal.proofs.Then.{then_ok, into_ok, count_ok, placed_ok, raised_ok, raised_passed, ok_from}
 use Rattle.book.specs.Opening.{seats_from, opening}
 

@@ -1,7 +1,7 @@
 -- What the calls of a book answer, and what it holds then.
-use Rattle.std.specs.Prelude.{ℕ, ◌+◌, cond, not, ◌||◌, List, [], ◌∷◌, ◌++◌, length, get_or, ℤ, Some, None, Ok, Err, Option, Result, ◌==◌, nat_lt, slice_index_or, slice_set}
+use Rattle.std.specs.Prelude.{ℕ, ◌+◌, cond, not, List, [], ◌∷◌, ◌++◌, length, get_or, ℤ, Some, None, Ok, Err, Option, Result, ◌==◌, nat_lt, slice_index_or, slice_set}
 use Rattle.refusal.specs.declared.Refusal.{Refusal}
-use Rattle.refusal.specs.declared.Refusal.TheVariants.{OutOfRange, SameAccount, Session, BookFull, NoSuchSwap, NotParty, JustRegistered, NumbersUsedUp}
+use Rattle.refusal.specs.declared.Refusal.TheVariants.{OutOfRange, SameAccount, Session, BookFull, NoSuchSwap, JustRegistered, NumbersUsedUp}
 use Rattle.refusal.specs.Checks.{check, ◌then◌, ◌into◌, count_of}
 use Rattle.coupons.specs.declared.lines.Terms.{Terms}
 use Rattle.book.specs.declared.calls.Offer.{Offer}

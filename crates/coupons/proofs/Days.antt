@@ -1,9 +1,8 @@
 -- What it tells of observations that they passed, and their days.
-use Rattle.std.proofs.Common.{◌≡◌, ℕ, zero, suc, ◌+◌, ◌<◌, ◌≤◌, true, List, [], ◌∷◌, length, get_or, drop, ℤ, pos, ◌+ℤ◌, nat_abs, ◌≤ℤ◌, is_ok, Ok, Err, Result, sym, refl, ap, ◌∙◌, subst, arith, w64, to_z, of_z}
+use Rattle.std.proofs.Common.{◌≡◌, ℕ, zero, suc, ◌+◌, ◌<◌, ◌≤◌, List, [], ◌∷◌, length, get_or, drop, ℤ, pos, ◌+ℤ◌, nat_abs, ◌≤ℤ◌, Ok, Err, Result, sym, refl, ap, arith, w64, to_z, of_z}
 use lib.Signed.{le_z}
 use Rattle.refusal.proofs.Then.{then_ok, check_passed}
 use Rattle.refusal.specs.Checks.{check, ◌then◌}
-use Rattle.refusal.specs.declared.Fault.{Fault}
 use Rattle.refusal.specs.declared.Refusal.{Refusal}
 use Rattle.refusal.specs.declared.Refusal.TheVariants.{MarketFigure}
 use Rattle.std.proofs.lemmas.List.{at_drop_more, at_drop_all}

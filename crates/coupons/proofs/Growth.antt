@@ -1,5 +1,5 @@
 -- The factor: how large it can be, and that it never falls.
-use Rattle.std.proofs.Common.{◌≡◌, ℕ, suc, ◌+◌, ◌*◌, ◌<◌, ◌≤◌, true, List, [], ◌∷◌, length, get_or, drop, ℤ, pos, negsuc, ◌+ℤ◌, ◌*ℤ◌, nat_abs, ◌≤ℤ◌, Ok, sym, refl, ap, ◌∙◌, subst, arith, w64, to_z, of_z}
+use Rattle.std.proofs.Common.{◌≡◌, ℕ, ◌+◌, ◌*◌, ◌<◌, ◌≤◌, true, List, [], ◌∷◌, length, get_or, drop, ℤ, pos, negsuc, ◌+ℤ◌, ◌*ℤ◌, ◌≤ℤ◌, Ok, arith, w64, to_z, of_z}
 use lib.Signed.{le_z}
 use Rattle.std.proofs.lemmas.Nat.{mul-le}
 use Rattle.std.proofs.lemmas.List.{at_drop_more, at_drop_all}
@@ -9,7 +9,7 @@ use Rattle.refusal.specs.Checks.{check, ◌then◌}
 use Rattle.refusal.specs.declared.Refusal.TheVariants.{Factor}
 use Rattle.coupons.specs.declared.overnight.Observation.{Observation}
 use Rattle.coupons.specs.Overnight.{seen, growth, compounded, factor_checks, Modest}
-use Rattle.coupons.specs.Rounding.{nearest, rounded}
+use Rattle.coupons.specs.Rounding.{rounded}
 use Rattle.coupons.proofs.Rounds.{nearest_least}
 
 pub interest : (r d : ℤ) → pos 0 ≤ℤ r → r ≤ℤ pos 50000 → pos 1 ≤ℤ d → d ≤ℤ pos 10 → (pos 0 ≤ℤ (r *ℤ d)) × ((r *ℤ d) ≤ℤ pos 500000)

@@ -2,7 +2,7 @@
 use Rattle.std.proofs.Common.{◌≡◌, ℕ, ◌≤◌, true, ℤ, pos, ◌-ℤ◌, nat_abs, ◌≤ℤ◌, is_ok, arith}
 use Rattle.refusal.proofs.Then.{then_both, check_passed}
 use Rattle.refusal.proofs.Within.{within_low, within_high}
-use Rattle.refusal.specs.Checks.{within, check, ◌then◌}
+use Rattle.refusal.specs.Checks.{within, check}
 use Rattle.refusal.specs.declared.Refusal.TheVariants.{MarketFigure, ListLength}
 use Rattle.std.proofs.lemmas.Int.{ints}
 use Rattle.coupons.specs.Overnight.{range_checks}

@@ -1,5 +1,5 @@
 -- The coupon of a line, signed for the long side.
-use Rattle.std.specs.Prelude.{ℕ, List, length, ℤ, neg_ℤ, Some, None, Ok, Err, Option, Result}
+use Rattle.std.specs.Prelude.{List, length, ℤ, neg_ℤ, Some, None, Ok, Err, Option, Result}
 use Rattle.refusal.specs.declared.Fault.{Fault}
 use Rattle.refusal.specs.declared.Refusal.{Refusal}
 use Rattle.refusal.specs.declared.Refusal.TheVariants as refusals

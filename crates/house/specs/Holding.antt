@@ -1,5 +1,5 @@
 -- What a house holds, as values.
-use Rattle.std.specs.Prelude.{ℕ, Bool, true, ◌&&◌, List, [], ◌∷◌, replicate, ℤ, pos, ◌==◌, unsigned_abs}
+use Rattle.std.specs.Prelude.{Bool, true, ◌&&◌, List, [], ◌∷◌, replicate, ℤ, pos, ◌==◌, unsigned_abs}
 use Rattle.book.specs.Reading.{Reading, reading}
 use Rattle.house.specs.declared.house.House.{House}
 

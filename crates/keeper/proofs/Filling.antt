@@ -1,5 +1,5 @@
 -- A loop that puts one entry after the other, and what the lender of the places learns.
-use Rattle.std.proofs.Common.{◌≡◌, ◌≤◌, min, List, [], ◌∷◌, ◌++◌, length, drop, sym, refl, ap, ◌∙◌, subst, arith}
+use Rattle.std.proofs.Common.{◌≡◌, min, List, [], ◌∷◌, ◌++◌, length, drop, sym, refl, ap, ◌∙◌, subst, arith}
 use Rattle.keeper.specs.Order.{Test, TotalOrder, first_of}
 use Rattle.keeper.specs.First.{FirstOf}
 use Rattle.keeper.specs.Keeping.{room, held_by, Sound, Put, Holds}

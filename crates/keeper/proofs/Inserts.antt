@@ -1,6 +1,6 @@
 -- Insertion, step by step.
-use Rattle.std.proofs.Common.{◌≡◌, ℕ, zero, suc, ◌+◌, ◌-◌, ◌<◌, ◌≤◌, Bool, true, false, cond, List, [], ◌∷◌, ◌++◌, length, get_or, take, drop, set, sym, refl, ap, ◌∙◌, subst, add-zero, arith}
-use Rattle.std.proofs.lemmas.List.{take_more, drop_more, drop_all, take_all, append_assoc, append-nil, take_more_set, drop-set-lt, drop-drop, get_or-take, get_or-drop, length-take, length-take-le, length-append, take_at, take-take, take-append-drop}
+use Rattle.std.proofs.Common.{◌≡◌, ℕ, zero, suc, ◌+◌, ◌-◌, ◌<◌, ◌≤◌, Bool, true, false, cond, List, [], ◌∷◌, ◌++◌, length, get_or, take, drop, set, sym, refl, ap, ◌∙◌, add-zero, arith}
+use Rattle.std.proofs.lemmas.List.{take_more, drop_more, drop_all, take_all, append_assoc, take_more_set, drop-set-lt, drop-drop, get_or-take, get_or-drop, length-take-le, take_at, take-take}
 use Rattle.keeper.specs.Order.{Test, insert}
 
 module _ {T : Type 0} (o : Test T) where

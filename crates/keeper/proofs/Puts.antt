@@ -1,9 +1,9 @@
 -- What a keeper holds, put by put.
-use Rattle.std.proofs.Common.{◌≡◌, ℕ, List, [], ◌∷◌, ◌++◌, length, take, sym, ap, ◌∙◌, arith}
+use Rattle.std.proofs.Common.{◌≡◌, ℕ, List, [], ◌∷◌, ◌++◌, take, sym, ap, ◌∙◌, arith}
 use Rattle.std.proofs.lemmas.List.{length_push, take_all}
 use Rattle.std.proofs.lemmas.List.Sums.{fold_push}
 use Rattle.keeper.specs.Order.{Test, insert, ordered, first_of}
-use Rattle.keeper.specs.Keeping.{room, held_by, Put, Holds}
+use Rattle.keeper.specs.Keeping.{room, Put, Holds}
 use Rattle.keeper.specs.declared.Keeper.{Keeper}
 use Rattle.keeper.proofs.Inserts.{take-insert}
 

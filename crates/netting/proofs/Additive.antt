@@ -1,5 +1,5 @@
 -- A reading of figures that carries sums over carries nets over.
-use Rattle.std.proofs.Common.{◌≡◌, ℕ, zero, suc, Bool, true, false, cond, eqb, List, [], ◌∷◌, map, length, sym, refl, ap, ◌∙◌}
+use Rattle.std.proofs.Common.{◌≡◌, ℕ, zero, suc, Bool, true, false, cond, eqb, List, [], ◌∷◌, map, length, refl, ap, ◌∙◌}
 use Rattle.netting.specs.Group.{Group, Additive}
 use Rattle.netting.specs.Nets.{only, share_of, net_of, sum_below, member_of, member_net, read_by}
 use Rattle.netting.specs.declared.nets.Entry.{Entry}

@@ -6,7 +6,6 @@ use crate::posting::Posting;
 use netting::figure::Figure;
 use netting::members::member_net;
 use netting::nets::{Entry, nets_into};
-use std::test::Fail;
 
 fn varied(variation: i64) -> Posting
     ensures { result ≡ posted variation (pos 0) (pos 0) (pos 0) (pos 0) }
@@ -22,7 +21,7 @@ fn varied(variation: i64) -> Posting
 
 // Accounts 0, 1 and 2 of members 0, 1 and 1: swap 1 (long 0, short 1) varies by 500, swap 2 (long 2, short 0) by 200.
 #[test]
-fn what_one_gains_another_loses(rt: HostRuntime) -> Result<(), Fail> {
+fn what_one_gains_another_loses(rt: HostRuntime) {
     let entries = [
         Entry {
             long: 0,
@@ -43,7 +42,6 @@ fn what_one_gains_another_loses(rt: HostRuntime) -> Result<(), Fail> {
     let members = [0, 1, 1];
     assert_eq!(rt; member_net(&statements, &members, 0), varied(300));
     assert_eq!(rt; member_net(&statements, &members, 1), varied(-300));
-    Ok(())
 }
 
 #[test]

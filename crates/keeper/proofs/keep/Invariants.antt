@@ -1,4 +1,4 @@
-use Rattle.std.proofs.Common.{◌≡◌, ◌≤◌, length, take}
+use Rattle.std.proofs.Common.{take}
 use Rattle.keeper.specs.Order.{insert}
 use Rattle.keeper.proofs.Inserts.{Carried}
 use Rattle.keeper.proofs.keep.Given as goal

@@ -1,4 +1,4 @@
-use Rattle.std.proofs.Common.{◌≡◌, ◌∷◌, ◌++◌, length, take, drop, sym, refl, ◌∙◌, subst, arith}
+use Rattle.std.proofs.Common.{◌≡◌, ◌∷◌, ◌++◌, length, take, drop, sym, refl, subst, arith}
 use Rattle.keeper.specs.Order.{insert}
 use Rattle.keeper.proofs.Inserts.{spot_more, spot_found, spot_all}
 use Rattle.keeper.proofs.spot.Goals as goal

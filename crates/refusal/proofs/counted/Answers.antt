@@ -1,6 +1,6 @@
-use Rattle.std.proofs.Common.{◌≡◌, true, false, cond, pos, ◌-ℤ◌, nat_abs, ◌≤ℤ◌, Ok, Err, sym, ap, ◌∙◌, arith, rules}
+use Rattle.std.proofs.Common.{◌≡◌, true, false, pos, ◌-ℤ◌, Ok, sym, ap, ◌∙◌, arith}
 use Rattle.std.proofs.lemmas.Int.{ints}
-use Rattle.refusal.specs.Checks.{within, count_of, ◌then◌, check}
+use Rattle.refusal.specs.Checks.{within}
 use Rattle.refusal.proofs.Within.{within_low, within_high, within_same}
 use Rattle.refusal.proofs.counted.Goals as goal
 

@@ -1,5 +1,5 @@
 use Rattle.std.proofs.Common.{◌≡◌, ◌≤◌, ℤ, pos, ◌-ℤ◌, ◌*ℤ◌, neg_ℤ, nat_abs, sym, ap, ◌∙◌, subst, arith, w64, SFits, to_z, of_z}
-use Rattle.std.proofs.lemmas.Int.{ints, to_z-of_z}
+use Rattle.std.proofs.lemmas.Int.{ints}
 use Rattle.coupons.specs.Rounding.{rounded}
 use Rattle.coupons.proofs.Products.{two_in, three_in, ratio_small, fits_small, same_three}
 use Rattle.coupons.proofs.Rounds.{rounded-odd}

@@ -1,4 +1,4 @@
-use Rattle.std.proofs.Common.{◌≡◌, ℕ, ◌<◌, true, ℤ, pos, ◌-ℤ◌, nat_abs, ◌≤ℤ◌, is_ok, sym, refl, ap, ◌∙◌, subst, arith, w64, SFits, to_z, of_z}
+use Rattle.std.proofs.Common.{◌≡◌, ℕ, ◌<◌, true, ℤ, pos, ◌-ℤ◌, ◌≤ℤ◌, is_ok, sym, refl, ap, ◌∙◌, arith, w64, SFits, to_z, of_z}
 use Rattle.refusal.proofs.Then.{then_passes, check_passed}
 use Rattle.refusal.proofs.Within.{within_low, within_high, within_same}
 use Rattle.refusal.specs.Checks.{within, check}

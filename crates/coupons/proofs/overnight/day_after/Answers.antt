@@ -1,8 +1,7 @@
-use Rattle.std.proofs.Common.{◌≡◌, ℕ, ◌≤◌, true, ℤ, pos, ◌+ℤ◌, nat_abs, ◌≤ℤ◌, is_ok, Ok, Err, Result, sym, refl, ap, ◌∙◌, subst, arith, w64, SFits, to_z, of_z, rules}
+use Rattle.std.proofs.Common.{◌≡◌, ◌≤◌, true, ℤ, pos, ◌+ℤ◌, nat_abs, ◌≤ℤ◌, is_ok, Ok, Err, sym, ap, ◌∙◌, arith, w64, SFits, to_z, of_z, rules}
 use lib.Signed.{le_z}
 use Rattle.refusal.proofs.Then.{then_passes, then_fails}
 use Rattle.refusal.specs.Checks.{check, ◌then◌}
-use Rattle.refusal.specs.declared.Refusal.{Refusal}
 use Rattle.refusal.specs.declared.Refusal.TheVariants.{MarketFigure}
 use Rattle.std.proofs.lemmas.Result.{err_from_is_err_and}
 use Rattle.std.proofs.lemmas.Int.{ints, to_z-of_z}

@@ -1,7 +1,7 @@
-use Rattle.std.proofs.Common.{◌≡◌, ◌+◌, ◌≤◌, get_or, drop, ℤ, pos, nat_abs, Ok, Err, sym, refl, ap, ◌∙◌, subst, arith, w64, to_z, of_z}
+use Rattle.std.proofs.Common.{◌+◌, ◌≤◌, get_or, drop, pos, nat_abs, Err, sym, ap, ◌∙◌, subst}
 use Rattle.std.proofs.lemmas.Result.{err_from_is_err_and}
 use Rattle.coupons.specs.declared.overnight.Observation.{Observation}
-use Rattle.coupons.specs.Overnight.{seen, days_from, day_after}
+use Rattle.coupons.specs.Overnight.{seen, days_from}
 use Rattle.coupons.proofs.Days.{days_more, days_all, into_ok, into_err, seen_ok, days_few, few_same}
 use Rattle.coupons.proofs.overnight.days_of.Goals as goal
 

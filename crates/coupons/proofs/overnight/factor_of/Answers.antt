@@ -1,12 +1,12 @@
-use Rattle.std.proofs.Common.{◌≡◌, ◌+◌, get_or, drop, ℤ, pos, ◌≤ℤ◌, is_ok, Ok, Err, sym, ap, ◌∙◌, subst, arith, w64, to_z, of_z}
+use Rattle.std.proofs.Common.{◌+◌, drop, pos, ◌≤ℤ◌, is_ok, Ok, Err, sym, ap, ◌∙◌, subst, w64}
 use lib.Signed.{le_z}
 use Rattle.refusal.proofs.Then.{then_passes, then_fails, check_passed}
-use Rattle.refusal.specs.Checks.{check, ◌then◌}
+use Rattle.refusal.specs.Checks.{check}
 use Rattle.refusal.specs.declared.Refusal.TheVariants.{Factor}
 use Rattle.std.proofs.lemmas.Result.{err_from_is_err_and}
-use Rattle.std.proofs.lemmas.Int.{ints, to_z-of_z}
+use Rattle.std.proofs.lemmas.Int.{to_z-of_z}
 use Rattle.coupons.specs.declared.overnight.Observation.{Observation}
-use Rattle.coupons.specs.Overnight.{seen, growth, compounded, factor_checks}
+use Rattle.coupons.specs.Overnight.{seen, compounded, factor_checks}
 use Rattle.coupons.proofs.Days.{seen_ok}
 use Rattle.coupons.proofs.Growth.{factors_more, factors_all, compounded-more, compounded_all, int_le-true, le_on}
 use Rattle.coupons.proofs.overnight.factor_of.Goals as goal

@@ -1,4 +1,4 @@
-use Rattle.std.proofs.Common.{◌≡◌, ◌≤◌, take, ap, ◌∙◌, arith, take_all}
+use Rattle.std.proofs.Common.{◌≤◌, take, ap, ◌∙◌, arith, take_all}
 use Rattle.netting.specs.Nets.{net_of, weight}
 use Rattle.netting.proofs.Sums.{net_more}
 use Rattle.netting.proofs.Sizes.{sum-within, size_share, size_net}

@@ -1,4 +1,4 @@
-use Rattle.std.proofs.Common.{◌≡◌, length, vec_items, sym, ap, arith, length-append}
+use Rattle.std.proofs.Common.{length, vec_items, sym, ap, arith, length-append}
 use Rattle.swaps.specs.Swaps.{Between, Limited, Due}
 use Rattle.book.specs.Reading.{reading}
 use Rattle.book.proofs.Accepted.{offered_ok}

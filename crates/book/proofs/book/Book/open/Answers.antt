@@ -1,5 +1,5 @@
-use Rattle.std.proofs.Common.{◌≡◌, length, vec_items, sym, refl, arith}
-use Rattle.swaps.specs.Swaps.{Between, Limited, Due, rising}
+use Rattle.std.proofs.Common.{length, vec_items, sym, arith}
+use Rattle.swaps.specs.Swaps.{Between, Limited, Due}
 use Rattle.book.proofs.Seats.{opening_ok, seats_written}
 use Rattle.book.proofs.Sound.{each_none}
 use Rattle.book.proofs.book.Book.open.Goals as goal

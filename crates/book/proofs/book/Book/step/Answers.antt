@@ -1,4 +1,4 @@
-use Rattle.std.proofs.Common.{◌≡◌, length, get_or, vec_items, refl, ◌∙◌, arith}
+use Rattle.std.proofs.Common.{length, get_or, vec_items, refl, ◌∙◌, arith}
 use Rattle.swaps.specs.Swaps.{blank}
 use Rattle.swaps.specs.States.{after_event}
 use Rattle.book.specs.Reading.{reading}

@@ -1,4 +1,4 @@
-use Rattle.std.proofs.Common.{◌≡◌, ◌<◌, length, get_or, Ok, Err, sym, refl, ap, ◌∙◌, arith, rules}
+use Rattle.std.proofs.Common.{◌≡◌, ◌<◌, length, get_or, Err, sym, refl, ap, ◌∙◌, arith, rules}
 use Rattle.swaps.specs.Swaps.{blank}
 use Rattle.swaps.specs.States.{after_event}
 use Rattle.book.proofs.Edits.{kept, state_at}
