@@ -1,4 +1,4 @@
-use Rattle.std.proofs.Common.{◌≡◌, ◌≤◌, pos, Some, codes, sym, ap, ◌∙◌, arith}
+use Rattle.std.proofs.Common.{◌≤◌, pos, Some, codes, sym, ap, ◌∙◌, arith}
 use Rattle.std.proofs.lemmas.Int.{ints}
 use Rattle.sheet.specs.Numerals.{onward}
 use Rattle.sheet.proofs.Fields.{field_some}

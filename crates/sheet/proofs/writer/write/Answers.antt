@@ -1,4 +1,4 @@
-use Rattle.std.proofs.Common.{◌≡◌, ℕ, ◌-◌, ◌≤◌, true, ◌++◌, length, take, drop, ℤ, nat_abs, is_ok, Ok, Err, sym, refl, ap, ◌∙◌, subst, arith, w64}
+use Rattle.std.proofs.Common.{◌≡◌, ◌-◌, true, ◌++◌, length, take, drop, nat_abs, is_ok, Err, sym, ap, ◌∙◌, arith, w64}
 use borrow.Rule.Slice.PartMut.{post_of}
 use Rattle.refusal.specs.Checks.{raised}
 use Rattle.std.proofs.lemmas.List.{length-take-le, take_at}
