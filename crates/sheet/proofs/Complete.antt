@@ -1,26 +1,24 @@
 -- The text of a sheet is read as that sheet.
-use Rattle.std.proofs.Common.{◌≡◌, ℕ, zero, suc, ◌+◌, ◌-◌, ◌*◌, ◌^◌, ◌<◌, ◌≤◌, Bool, true, false, cond, not, ◌&&◌, eqb, List, [], ◌∷◌, ◌++◌, length, get_or, take, drop, set, replicate, ℤ, pos, negsuc, ◌+ℤ◌, neg_ℤ, nat_abs, Some, None, Ok, Err, codes, decimal, Option, Result, sym, refl, ap, ◌∙◌, subst, ⊎_elim, append_assoc, add-one, arith}
+use Rattle.std.proofs.Common.{◌≡◌, ℕ, zero, suc, ◌+◌, ◌-◌, ◌^◌, ◌<◌, ◌≤◌, Bool, true, false, cond, not, ◌&&◌, eqb, List, [], ◌∷◌, ◌++◌, length, get_or, drop, set, replicate, ℤ, pos, negsuc, ◌+ℤ◌, neg_ℤ, nat_abs, Some, None, Ok, codes, decimal, sym, refl, ap, ◌∙◌, subst, append_assoc, add-one, arith}
 use Rattle.std.proofs.lemmas.Fmt.{digits_decimal}
 use Rattle.std.proofs.lemmas.List.Edits.{sets, sets-eq}
 use Rattle.std.proofs.lemmas.List.{append-nil, length-set, get_or-set_other, set-get_or, length-replicate, drop-replicate}
-use Rattle.std.proofs.lemmas.Str.Parse.{IsNumeralModel, numerals_by_value, tells_all_ascii_digits}
+use Rattle.std.proofs.lemmas.Str.Parse.{numerals_by_value, tells_all_ascii_digits}
 use Rattle.std.proofs.lemmas.Int.{ints}
-use Rattle.std.proofs.lemmas.Bool.{and_parts, and_from, eqb-true, ne_eqb, not_from_false, not-true}
+use Rattle.std.proofs.lemmas.Bool.{and_parts, and_from, not_from_false, not-true}
 use Rattle.std.proofs.lemmas.Bool.Decides.{nat_tests}
 use Rattle.std.specs.List.{flat_map}
-use Rattle.std.specs.Str.Parse.{digits_value}
 use Rattle.std.specs.Char.{is_ascii_digit}
 use Rattle.std.specs.Str.{all_ascii_digits}
 use Rattle.sheet.specs.declared.order.Order.{Order}
 use Rattle.sheet.specs.declared.order.Order.TheVariants.{Charge, Credit}
-use Rattle.sheet.specs.declared.reading.Next.{Next}
-use Rattle.sheet.specs.declared.reading.Next.TheVariants.{Session, MemberOrEnd, Side, Charged, Credited, Nothing}
+use Rattle.sheet.specs.declared.reading.Next.TheVariants.{MemberOrEnd, Side, Charged, Credited, Nothing}
 use Rattle.sheet.specs.declared.reading.Reading.{Reading}
 use Rattle.sheet.specs.declared.reading.Sheet.{Sheet}
 use Rattle.sheet.specs.Laws.{sheet_of}
 use Rattle.sheet.specs.Numerals.{field, onward}
 use Rattle.sheet.specs.Orders.{one, order_of, orders, total, nil}
-use Rattle.sheet.specs.Reading.{start, step, step_at, read_on, reads, judged, member_or_end, at_end, go_on, netted}
+use Rattle.sheet.specs.Reading.{start, step, read_on, reads, judged, member_or_end, at_end, go_on, netted}
 use Rattle.sheet.specs.Text.{ended, order_lines, all_lines, lines, text}
 use Rattle.sheet.specs.Writing.{payable, Sendable}
 use Rattle.sheet.proofs.Fields.{field_line}

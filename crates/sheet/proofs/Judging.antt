@@ -1,21 +1,20 @@
 -- What the reader accepts is the text of a sheet, and a front of the bytes decides.
-use Rattle.std.proofs.Common.{◌≡◌, ℕ, zero, suc, ◌+◌, ◌-◌, ◌*◌, ◌<◌, ◌≤◌, Bool, true, false, cond, eqb, List, [], ◌∷◌, ◌++◌, length, get_or, replicate, ℤ, pos, nat_abs, Some, None, Ok, Err, Option, Result, sym, refl, ap, ◌∙◌, subst, ⊎_elim, append_assoc, arith}
+use Rattle.std.proofs.Common.{◌≡◌, ℕ, zero, suc, ◌+◌, ◌<◌, true, false, eqb, List, [], ◌∷◌, ◌++◌, length, get_or, replicate, pos, Some, None, Ok, Err, Option, Result, sym, refl, ◌∙◌, subst, ⊎_elim, append_assoc, arith}
 use Rattle.refusal.specs.Checks.{within}
 use Rattle.std.proofs.lemmas.List.{append-nil, length_push, length-replicate, get_or-replicate, get_or_past}
 use Rattle.std.proofs.lemmas.Int.{ints}
 use Rattle.std.proofs.lemmas.Bool.{cases_Bool, cases_lt, eqb-true}
 use Rattle.std.specs.List.{flat_map}
-use Rattle.refusal.specs.declared.Fault.{Fault}
 use Rattle.sheet.specs.declared.reading.Next.{Next}
 use Rattle.sheet.specs.declared.reading.Next.TheVariants.{Session, MemberOrEnd, Side, Charged, Credited, Nothing}
 use Rattle.sheet.specs.declared.reading.Reading.{Reading}
 use Rattle.sheet.specs.declared.reading.Sheet.{Sheet}
 use Rattle.sheet.specs.Laws.{TextOf, FrontDecides}
-use Rattle.sheet.specs.Reading.{start, step, read_on, reads, judged, finished, complete, bad_line}
+use Rattle.sheet.specs.Reading.{start, step, read_on, judged, finished, bad_line}
 use Rattle.sheet.specs.Text.{ended, text, lines}
 use Rattle.sheet.specs.Writing.{payable}
 use Rattle.sheet.proofs.Lines.{joined_append}
-use Rattle.sheet.proofs.Steps.{Sound, Stepped, stepped, taken, left}
+use Rattle.sheet.proofs.Steps.{Sound, stepped, taken, left}
 
 -- a byte more, by what it is
 pub read_line : (r : Reading) (part : List ℕ) (n b : ℕ) (bs : List ℕ) → eqb b 10 ≡ true → read_on r part n (b ∷ bs) ≡ judged (step r part) n (λ r'. read_on r' [] (n + 1) bs)

@@ -1,5 +1,5 @@
 -- What a net orders, counted.
-use Rattle.std.proofs.Common.{◌≡◌, ℕ, zero, suc, ◌+◌, ◌≤◌, true, false, List, [], ◌∷◌, length, get_or, set, ℤ, pos, negsuc, nat_abs, is_some, Some, None, Option, refl, arith}
+use Rattle.std.proofs.Common.{◌≡◌, ℕ, zero, suc, ◌≤◌, true, false, List, [], ◌∷◌, length, get_or, set, ℤ, pos, negsuc, nat_abs, is_some, Some, None, Option, refl, arith}
 use Rattle.refusal.proofs.Within.{within_low, within_high, within-from}
 use Rattle.std.proofs.lemmas.Int.{ints}
 use Rattle.std.proofs.lemmas.Bool.{and_parts, and_from}

@@ -1,12 +1,12 @@
 -- Numerals and what they write.
-use Rattle.std.proofs.Common.{◌≡◌, ℕ, ◌+◌, ◌-◌, ◌*◌, ◌^◌, ◌<◌, ◌≤◌, Bool, true, false, cond, not, ◌&&◌, eqb, ltb, leb, List, [], ◌∷◌, ◌++◌, length, get_or, drop, Some, None, Option, sym, refl, ap, ◌∙◌, ⊎_elim, arith}
+use Rattle.std.proofs.Common.{◌≡◌, ℕ, ◌+◌, ◌-◌, ◌*◌, ◌<◌, ◌≤◌, true, false, ◌&&◌, eqb, leb, List, [], ◌∷◌, ◌++◌, length, get_or, drop, Some, None, Option, sym, refl, ap, ◌∙◌, ⊎_elim, arith}
 use Rattle.std.proofs.lemmas.List.{at_drop_more}
-use Rattle.std.proofs.lemmas.Bool.{and_left, and_right, and_from, lt-leb, le-leb, ltb-true, eq-eqb, eqb-true, cases_Bool}
+use Rattle.std.proofs.lemmas.Bool.{and_right, and_from, lt-leb, le-leb, eq-eqb, eqb-true, cases_Bool}
 use Rattle.std.proofs.lemmas.Bool.Decides.{nat_tests}
 use Rattle.std.specs.Str.Parse.{digits_value, digits_value_after}
-use Rattle.std.specs.Char.{is_ascii_digit, digit_value as digitValue}
+use Rattle.std.specs.Char.{is_ascii_digit, digit_value}
 use Rattle.std.specs.Str.{all_ascii_digits}
-use Rattle.sheet.specs.Numerals.{value_up_to, trim, numeral, onward, after}
+use Rattle.sheet.specs.Numerals.{value_up_to, after}
 
 pub no_digits : (high : ℕ) (ds : List ℕ) → all_ascii_digits ds ≡ false → None ≡ value_up_to high ds
 unfolding value_up_to
@@ -25,17 +25,17 @@ its_value high ds n e v h =
 -- more digits make no number smaller
 pub value_grows : (n : ℕ) (ds : List ℕ) → n ≤ digits_value_after 10 n ds
 value_grows n [] = omega arith
-value_grows n (c ∷ cs) = let h = value_grows (n * 10 + digitValue c) cs in omega arith
+value_grows n (c ∷ cs) = let h = value_grows (n * 10 + digit_value c) cs in omega arith
 
-pub digit_value : (c : ℕ) → is_ascii_digit c ≡ true → digitValue c ≡ c - 48
-digit_value c e = grind (arith, nat_tests)
+pub digit_value-sub : (c : ℕ) → is_ascii_digit c ≡ true → digit_value c ≡ c - 48
+digit_value-sub c e = grind (arith, nat_tests)
 
 -- one digit on
 pub digits_more : (ds : List ℕ) (i : ℕ) → i < length ds → true ≡ is_ascii_digit (get_or ds i 0) → all_ascii_digits (drop (i + 1) ds) ≡ all_ascii_digits (drop i ds)
 digits_more ds i h e = ap (λ b. b && all_ascii_digits (drop (i + 1) ds)) e ∙ sym (at_drop_more all_ascii_digits ds i 0 h)
 
 pub value-more : (n : ℕ) (ds : List ℕ) (i : ℕ) → i < length ds → true ≡ is_ascii_digit (get_or ds i 0) → digits_value_after 10 (n * 10 + (get_or ds i 0 - 48)) (drop (i + 1) ds) ≡ digits_value_after 10 n (drop i ds)
-value-more n ds i h e = ap (λ d. digits_value_after 10 (n * 10 + d) (drop (i + 1) ds)) (sym (digit_value (get_or ds i 0) (sym e))) ∙ sym (at_drop_more (digits_value_after 10 n) ds i 0 h)
+value-more n ds i h e = ap (λ d. digits_value_after 10 (n * 10 + d) (drop (i + 1) ds)) (sym (digit_value-sub (get_or ds i 0) (sym e))) ∙ sym (at_drop_more (digits_value_after 10 n) ds i 0 h)
 
 -- a line that begins with the key, and one that does not
 pub after_key : (key rest : List ℕ) → after key (key ++ rest) ≡ Some rest

@@ -1,5 +1,5 @@
 -- Bytes added to a page one after another.
-use Rattle.std.proofs.Common.{◌≡◌, ℕ, List, [], ◌++◌, length, append_assoc, arith}
+use Rattle.std.proofs.Common.{◌≡◌, ℕ, List, [], ◌++◌, append_assoc, arith}
 use Rattle.std.proofs.lemmas.List.{length-append, append-nil}
 use Rattle.sheet.specs.declared.page.Page.{Page}
 use Rattle.sheet.specs.Pages.{on_page, Adds}

@@ -1,7 +1,7 @@
 -- What one line more makes of a sheet that is being read.
-use Rattle.std.proofs.Common.{◌≡◌, ℕ, zero, suc, ◌+◌, ◌-◌, ◌*◌, ◌^◌, ◌<◌, ◌≤◌, Bool, true, false, cond, ◌&&◌, List, [], ◌∷◌, ◌++◌, length, get_or, set, ℤ, pos, neg_ℤ, nat_abs, Some, None, codes, decimal, Option, sym, refl, ap, ◌∙◌, subst, append_assoc, arith}
+use Rattle.std.proofs.Common.{◌≡◌, ℕ, zero, suc, ◌+◌, ◌-◌, ◌*◌, ◌^◌, ◌<◌, ◌≤◌, Bool, true, false, cond, List, [], ◌∷◌, ◌++◌, length, get_or, ℤ, pos, neg_ℤ, nat_abs, Some, None, codes, decimal, Option, sym, refl, ap, ◌∙◌, subst, append_assoc, arith}
 use Rattle.std.proofs.lemmas.Fmt.{length-decimal-le}
-use Rattle.std.proofs.lemmas.List.{append-nil, length-set, length-append, get_or-set_other, get_or_past}
+use Rattle.std.proofs.lemmas.List.{length-set, length-append, get_or-set_other, get_or_past}
 use Rattle.std.proofs.lemmas.Slice.Eq.{bytes_eq-Decides}
 use Rattle.std.proofs.lemmas.Int.{ints}
 use Rattle.std.specs.Str.{bytes_eq}
@@ -9,10 +9,10 @@ use Rattle.sheet.specs.declared.reading.Next.{Next}
 use Rattle.sheet.specs.declared.reading.Next.TheVariants.{Session, MemberOrEnd, Side, Charged, Credited, Nothing}
 use Rattle.sheet.specs.declared.reading.Reading.{Reading}
 use Rattle.sheet.specs.declared.reading.Sheet.{Sheet}
-use Rattle.sheet.specs.Numerals.{field, onward}
+use Rattle.sheet.specs.Numerals.{field}
 use Rattle.sheet.specs.Orders.{order_of, orders, total, nil}
-use Rattle.sheet.specs.Reading.{step, step_at, side, at_end, member_or_end, go_on, netted, Seated}
-use Rattle.sheet.specs.Text.{ended, order_lines, all_lines, lines}
+use Rattle.sheet.specs.Reading.{step, step_at, side, at_end, member_or_end, netted, Seated}
+use Rattle.sheet.specs.Text.{order_lines, all_lines, lines}
 use Rattle.sheet.specs.Writing.{payable}
 use Rattle.sheet.proofs.Fields.{field_some, cond_some, onward_some, some_same}
 use Rattle.sheet.proofs.Lines.{vacant_none, lines-set}

@@ -1,5 +1,5 @@
 -- What writer and reader promise of each other.
-use Rattle.std.specs.Prelude.{◌≡◌, ℕ, ◌-◌, ◌<◌, List, ◌++◌, length, replicate, ℤ, pos, IfOk, Ok, Err, Result, unsigned_abs}
+use Rattle.std.specs.Prelude.{◌≡◌, ℕ, ◌-◌, ◌<◌, List, ◌++◌, length, replicate, ℤ, pos, IfOk, Ok, Result, unsigned_abs}
 use Rattle.refusal.specs.declared.Fault.{Fault}
 use Rattle.sheet.specs.declared.reading.Sheet.{Sheet}
 use Rattle.sheet.specs.Reading.{reads}

@@ -1,10 +1,10 @@
-use Rattle.std.proofs.Common.{◌≡◌, ◌+◌, ◌≤◌, [], ◌∷◌, ◌++◌, length, get_or, drop, pos, codes, decimal, sym, refl, ap, ◌∙◌, append_assoc, arith, w64, SFits, rules}
+use Rattle.std.proofs.Common.{◌+◌, ◌++◌, get_or, drop, pos, codes, decimal, sym, ap, ◌∙◌, arith, w64, SFits, rules}
 use Rattle.std.proofs.lemmas.Fmt.{length-decimal-le}
-use Rattle.std.proofs.lemmas.List.{append-nil, length_push}
+use Rattle.std.proofs.lemmas.List.{length_push}
 use Rattle.std.proofs.lemmas.Int.{ints, to_z-of_z}
 use Rattle.std.specs.List.{flat_map}
 use Rattle.sheet.specs.Orders.{order_of, orders}
-use Rattle.sheet.specs.Pages.{on_page, Adds}
+use Rattle.sheet.specs.Pages.{on_page}
 use Rattle.sheet.specs.Text.{ended, order_lines, all_lines, text}
 use Rattle.sheet.proofs.Lines.{rest_more, rest_all, shift, finish}
 use Rattle.sheet.proofs.Nets.{orders_le, payable_at}

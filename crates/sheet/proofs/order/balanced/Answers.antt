@@ -1,4 +1,4 @@
-use Rattle.std.proofs.Common.{◌≡◌, ℕ, zero, suc, ◌-◌, ◌^◌, eqb, ℤ, pos, negsuc, refl, ap, ◌∙◌, arith, SFits, of_z}
+use Rattle.std.proofs.Common.{◌≡◌, zero, suc, ◌-◌, ◌^◌, eqb, ℤ, pos, negsuc, refl, ap, ◌∙◌, arith, SFits, of_z}
 use mir.Syntax.{w128}
 use Rattle.std.proofs.lemmas.Bool.{ne_eqb}
 use Rattle.sheet.specs.Orders.{nil}

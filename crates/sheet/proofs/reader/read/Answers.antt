@@ -1,8 +1,8 @@
-use Rattle.std.proofs.Common.{◌≡◌, ◌+◌, ◌≤◌, sym, refl, ap, ◌∙◌, subst, arith}
+use Rattle.std.proofs.Common.{◌≡◌, sym, ap, ◌∙◌, subst}
 use Rattle.std.proofs.lemmas.List.{take_rest}
 use Rattle.sheet.specs.Laws.{Accepts}
 use Rattle.sheet.specs.Reading.{reads, finished}
-use Rattle.sheet.proofs.Accepting.{Before, before_start, accepts, byte_on, good_on, bad_on, end_on, before_same}
+use Rattle.sheet.proofs.Accepting.{before_start, accepts, byte_on, good_on, bad_on, end_on, before_same}
 use Rattle.sheet.proofs.Judging.{front_decides}
 use Rattle.sheet.proofs.reader.read.Goals as goal
 use Rattle.sheet.proofs.reader.read.Goals.{then-b-eq10+in-Some, else-b-eq10}

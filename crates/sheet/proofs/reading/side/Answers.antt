@@ -1,4 +1,4 @@
-use Rattle.std.proofs.Common.{◌≡◌, false, cond, Some, None, codes, sym, ap, ◌∙◌}
+use Rattle.std.proofs.Common.{cond, Some, None, codes, ap, ◌∙◌}
 use Rattle.std.specs.Str.{bytes_eq}
 use Rattle.sheet.specs.declared.reading.Next.TheVariants.{Charged, Credited}
 use Rattle.sheet.proofs.reading.side.Goals as goal

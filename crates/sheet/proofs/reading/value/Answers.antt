@@ -1,11 +1,10 @@
-use Rattle.std.proofs.Common.{◌≡◌, ℕ, ◌+◌, ◌-◌, ◌*◌, ◌≤◌, true, false, ◌&&◌, get_or, drop, sym, refl, ap, ◌∙◌, arith}
+use Rattle.std.proofs.Common.{◌≡◌, ◌+◌, ◌*◌, true, ◌&&◌, drop, sym, ap, ◌∙◌, arith}
 use Rattle.std.proofs.lemmas.List.{at_drop_more, at_drop_all}
 use Rattle.std.specs.Str.Parse.{digits_value, digits_value_after}
-use Rattle.std.specs.Char.{is_ascii_digit, digit_value}
 use Rattle.std.specs.Str.{all_ascii_digits}
 use Rattle.sheet.proofs.Numerals.{no_digits, too_large, its_value, value_grows, digits_more, value-more}
 use Rattle.sheet.proofs.reading.value.Goals as goal
-use Rattle.sheet.proofs.reading.value.Goals.{After-from, at·returns-then-n-high, at·loop-b-again}
+use Rattle.sheet.proofs.reading.value.Goals.{After-from}
 
 pub returns-then-not-is_ascii_digit : goal.returns-then-not-is_ascii_digit
 returns-then-not-is_ascii_digit c =
@@ -23,11 +22,11 @@ next c =
 pub returns-then-n-high : goal.returns-then-n-high
 returns-then-n-high c =
     let grows = value_grows (c.loop-b.n * 10 + c.from.result) (drop (c.loop-b.b-index + 1) c.args.digits.now) in
-    too_large c.args.high c.args.digits.now (omega (arith, next (at·returns-then-n-high c).After-from))
+    too_large c.args.high c.args.digits.now (omega (arith, next (goal.at.returns-then-n-high c).After-from))
 
 pub loop-b-preserved : goal.loop-b-preserved
 loop-b-preserved c =
-    (c.if-n-high.false, digits_more c.args.digits.now c.loop-b.b-index c.loop-b-test.true c.if-not-is_ascii_digit.ensures.value ∙ c.loop-b.invariant.1, next (at·loop-b-again c).After-from)
+    (c.if-n-high.false, digits_more c.args.digits.now c.loop-b.b-index c.loop-b-test.true c.if-not-is_ascii_digit.ensures.value ∙ c.loop-b.invariant.1, next (goal.at.loop-b-preserved c).After-from)
 
 pub returns : goal.returns
 returns c =

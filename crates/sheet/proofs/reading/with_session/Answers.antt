@@ -1,4 +1,4 @@
-use Rattle.std.proofs.Common.{◌≡◌, codes, sym, arith}
+use Rattle.std.proofs.Common.{codes, sym, arith}
 use Rattle.sheet.proofs.Fields.{field_some}
 use Rattle.sheet.proofs.reading.with_session.Goals as goal
 

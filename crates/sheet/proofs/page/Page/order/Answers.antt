@@ -1,4 +1,4 @@
-use Rattle.std.proofs.Common.{◌≡◌, ◌≤◌, ◌++◌, length, codes, decimal, sym, ap, arith}
+use Rattle.std.proofs.Common.{◌++◌, codes, decimal, sym, ap, arith}
 use Rattle.std.proofs.lemmas.Fmt.{length-decimal-le}
 use Rattle.std.proofs.lemmas.List.{append-nil, length_push}
 use Rattle.sheet.specs.Orders.{amount}

@@ -1,4 +1,4 @@
-use Rattle.std.proofs.Common.{◌≡◌, ◌+◌, ◌<◌, ◌≤◌, [], ◌∷◌, ◌++◌, length, get_or, take, ap, append_assoc, arith}
+use Rattle.std.proofs.Common.{◌<◌, [], ◌∷◌, length, get_or, take, append_assoc, arith}
 use Rattle.std.proofs.lemmas.List.{take_more, take_more_set, take_all}
 use Rattle.sheet.proofs.page.Page.put.Goals as goal
 

@@ -1,5 +1,4 @@
-use Rattle.std.proofs.Common.{◌≡◌, ◌+◌, ◌++◌, length, take}
-use Rattle.sheet.specs.Pages.{on_page}
+use Rattle.std.proofs.Common.{◌≡◌, ◌+◌, ◌++◌, take}
 use Rattle.sheet.proofs.page.Page.put.Given as goal
 
 abbrev pub invariant-loop-b : goal.invariant-loop-b

@@ -1,4 +1,4 @@
-use Rattle.std.proofs.Common.{◌≡◌, sym, ap, ◌∙◌}
+use Rattle.std.proofs.Common.{sym, ap, ◌∙◌}
 use Rattle.sheet.specs.Reading.{step, step_at, go_on}
 use Rattle.sheet.proofs.reading.Reading.take.Goals as goal
 
