@@ -11,13 +11,12 @@ invariant_of-result c =
     let xs = c.in_ok-limits.limits in
     let ls = c.fresh-lines.result in
     let e = c.fresh-lines.ensures in
-    let whole = c.in_ok-limits.ensures.whole in (
-      ap length e ∙ length-map xs undrawn ∙ whole.0,
-      (
-        (λ k h. subst Fair (sym (ap (λ rs. line_at rs k) e ∙ undrawn_at xs k whole.0 h)) (undrawn-fair _ (whole.1 k h))),
-        (whole.2, tt),
-      ),
-    )
+    let whole = c.in_ok-limits.ensures.whole in
+    record {
+      wide = ap length e ∙ length-map xs undrawn ∙ whole.0;
+      fair = λ k h. subst Fair (sym (ap (λ rs. line_at rs k) e ∙ undrawn_at xs k whole.0 h)) (undrawn-fair _ (whole.1 k h));
+      ceiling = whole.2;
+    }
 
 pub returns : goal.returns
 returns c =
