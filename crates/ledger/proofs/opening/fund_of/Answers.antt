@@ -1,4 +1,4 @@
-use Rattle.std.proofs.Common.{◌≡◌, true, pos, nat_abs, is_ok, Ok, sym, refl, ap, ◌∙◌, arith, w64}
+use Rattle.std.proofs.Common.{◌≡◌, true, pos, nat_abs, is_ok, Ok, sym, ap, ◌∙◌, arith, w64}
 use Rattle.refusal.proofs.Then.{then_passes, check_passed}
 use Rattle.refusal.proofs.Within.{within_low, within_high}
 use Rattle.refusal.specs.Checks.{within}

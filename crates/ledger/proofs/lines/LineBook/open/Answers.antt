@@ -1,4 +1,4 @@
-use Rattle.std.proofs.Common.{◌≡◌, map, length, Ok, sym, ap, ◌∙◌, subst, w64}
+use Rattle.std.proofs.Common.{map, length, Ok, sym, ap, ◌∙◌, subst, w64}
 use Rattle.std.proofs.lemmas.List.{length-map}
 use Rattle.std.proofs.lemmas.Int.{to_z-of_z}
 use Rattle.ledger.specs.Lines.{left, undrawn, line_at, Fair}

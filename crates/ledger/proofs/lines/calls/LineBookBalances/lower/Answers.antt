@@ -1,4 +1,4 @@
-use Rattle.std.proofs.Common.{◌≡◌, ◌-◌, ◌≤◌, sym, ap, ◌∙◌, subst, arith}
+use Rattle.std.proofs.Common.{◌-◌, ◌≤◌, sym, ap, ◌∙◌, subst, arith}
 use Rattle.ledger.specs.Lines.{left, line_at, Fair}
 use Rattle.ledger.specs.Drawn.{fund-left, drawn_left, drawn_fair, funds_put}
 use Rattle.ledger.proofs.lines.calls.LineBookBalances.lower.Goals as goal

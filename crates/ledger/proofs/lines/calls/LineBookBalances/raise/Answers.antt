@@ -1,4 +1,4 @@
-use Rattle.std.proofs.Common.{◌≡◌, ◌+◌, ◌≤◌, sym, ap, ◌∙◌, subst, arith}
+use Rattle.std.proofs.Common.{◌+◌, ◌≤◌, sym, ap, ◌∙◌, subst, arith}
 use Rattle.ledger.specs.Funds.{fund_limit}
 use Rattle.ledger.specs.Lines.{left, line_at, Fair}
 use Rattle.ledger.specs.Drawn.{fund-left, repaid_left, repaid_fair, funds_put}
