@@ -6,23 +6,21 @@ use Rattle.ledger.specs.Openings.{opened, funds_of}
 use Rattle.ledger.specs.Drawn.{undrawn_at, undrawn-fair, undrawn-left, undrawn-each}
 use Rattle.ledger.proofs.lines.LineBook.open.Goals as goal
 
-pub invariant_of-result : goal.invariant_of-result
-invariant_of-result c =
+pub invariant_of-result-clause-wide : goal.invariant_of-result-clause-wide
+invariant_of-result-clause-wide c = ap length c.fresh-lines.ensures ∙ length-map c.in_ok-limits.limits undrawn ∙ c.in_ok-limits.ensures.whole.0
+
+pub invariant_of-result-clause-fair : goal.invariant_of-result-clause-fair
+invariant_of-result-clause-fair c =
     let xs = c.in_ok-limits.limits in
-    let ls = c.fresh-lines.result in
     let e = c.fresh-lines.ensures in
     let whole = c.in_ok-limits.ensures.whole in
-    record {
-      wide = ap length e ∙ length-map xs undrawn ∙ whole.0;
-      fair = λ k h. subst Fair (sym (ap (λ rs. line_at rs k) e ∙ undrawn_at xs k whole.0 h)) (undrawn-fair _ (whole.1 k h));
-      ceiling = whole.2;
-    }
+    λ k h. subst Fair (sym (ap (λ rs. line_at rs k) e ∙ undrawn_at xs k whole.0 h)) (undrawn-fair _ (whole.1 k h))
 
-pub returns : goal.returns
-returns c =
-    let xs = c.in_ok-limits.limits in
-    let e = c.fresh-lines.ensures in
-    record {
-      funds = ap (λ ms. Ok (funds_of (ms, c.in_ok-limits.house))) (ap (map left) e ∙ undrawn-left xs) ∙ c.in_ok-limits.ensures.answer ∙ ap (opened c.args.lines.now) (to_z-of_z w64 c.args.house c.ranges.house);
-      undrawn = λ k. ap (λ ls. (line_at ls k).drawn) e ∙ undrawn-each xs k;
-    }
+pub returns-clause-funds : goal.returns-clause-funds
+returns-clause-funds c =
+    let members = ap (map left) c.fresh-lines.ensures ∙ undrawn-left c.in_ok-limits.limits in
+    let figure = to_z-of_z w64 c.args.house c.ranges.house in
+    cc c.in_ok-limits.ensures.answer
+
+pub returns-clause-undrawn : goal.returns-clause-undrawn
+returns-clause-undrawn c = λ k. ap (λ ls. (line_at ls k).drawn) c.fresh-lines.ensures ∙ undrawn-each c.in_ok-limits.limits k
