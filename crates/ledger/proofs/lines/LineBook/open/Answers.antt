@@ -18,9 +18,10 @@ invariant_of-result-clause-fair c =
 
 pub returns-clause-funds : goal.returns-clause-funds
 returns-clause-funds c =
+    let house = c.in_ok-limits.house in
     let members = ap (map left) c.fresh-lines.ensures ∙ undrawn-left c.in_ok-limits.limits in
     let figure = to_z-of_z w64 c.args.house c.ranges.house in
-    cc c.in_ok-limits.ensures.answer
+    ap (λ ms. Ok (funds_of (ms, house))) members ∙ c.in_ok-limits.ensures.answer ∙ ap (opened c.args.lines.now) figure
 
 pub returns-clause-undrawn : goal.returns-clause-undrawn
 returns-clause-undrawn c = λ k. ap (λ ls. (line_at ls k).drawn) c.fresh-lines.ensures ∙ undrawn-each c.in_ok-limits.limits k
