@@ -1,5 +1,5 @@
 -- Lists of transfers, one after the other.
-use Rattle.std.proofs.Common.{◌≡◌, ℕ, ◌+◌, ◌<◌, ◌≤◌, Bool, true, false, cond, not, List, [], ◌∷◌, ◌++◌, length, get_or, take, drop, set, sym, refl, ap, ◌∙◌, subst, append_assoc, append-nil, arith}
+use Rattle.std.proofs.Common.{◌≡◌, ℕ, ◌+◌, ◌<◌, ◌≤◌, Bool, true, false, List, [], ◌∷◌, ◌++◌, length, get_or, take, drop, set, sym, ap, ◌∙◌, append_assoc, append-nil, arith}
 use Rattle.std.proofs.lemmas.List.{at_drop_more, at_drop_all, take_more_set, drop-set-lt, drop-drop, take-append-drop}
 use Rattle.ledger.specs.declared.Decision.{Decision}
 use Rattle.ledger.specs.declared.transfers.Transfer.{Transfer}
@@ -40,11 +40,6 @@ rest_more ds old i d e = drop-set-lt (i + 1) ds i d (omega arith) ∙ sym (drop-
 pub answers_all : (ds old all : List Decision) (i n : ℕ) → i ≡ n → take i ds ++ [] ≡ all → drop i ds ≡ drop i old → ds ≡ all ++ drop n old
 answers_all ds old all i n same front rest =
     sym (take-append-drop i ds) ∙ ap (λ xs. xs ++ drop i ds) (sym (append-nil (take i ds)) ∙ front) ∙ ap (λ xs. all ++ xs) (rest ∙ ap (λ k. drop k old) same)
-
--- what `!=` tells
-pub ne_told : (d e : Decision) (r x : Bool) → cond x (d ≡ e) (d ≡ e → ⊥) → r ≡ not x → (r ≡ true → d ≡ e → ⊥) × (r ≡ false → d ≡ e)
-ne_told d e r true h k = ((λ t. let never : ◌≡◌ {A = Bool} true false = sym t ∙ k in absurd (grind arith)), (λ _. h))
-ne_told d e r false h k = ((λ _. h), (λ t. let never : ◌≡◌ {A = Bool} true false = sym k ∙ t in absurd (grind arith)))
 
 -- two lists of answers are alike where the next ones are, and the rest
 module _ {P : Type 0} (all all' ds es : List Decision) (d e : Decision) (a b : Bool) (p : all ≡ d ∷ ds) (q : all' ≡ e ∷ es) (to : a ≡ true → all ≡ all' → P) (from : P → (a ≡ true) × (all ≡ all')) where

@@ -1,5 +1,5 @@
 -- A member's line, what is drawn on it and what is left.
-use Rattle.std.specs.Prelude.{◌≡◌, ℕ, ◌<◌, ◌≤◌, List, ℤ, pos, ◌+ℤ◌, ◌-ℤ◌, ◌≤ℤ◌, slice_index_or, unsigned_abs}
+use Rattle.std.specs.Prelude.{◌≡◌, ℕ, ◌≤◌, List, ℤ, pos, ◌+ℤ◌, ◌-ℤ◌, ◌≤ℤ◌, slice_index_or, unsigned_abs}
 use Rattle.ledger.specs.declared.line.Line.{Line}
 use Rattle.ledger.specs.Funds.{fund_limit}
 

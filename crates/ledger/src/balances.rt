@@ -65,7 +65,7 @@ fn decide_inflow(member: usize, amount: u64, to: u64) -> Decision
 }
 
 pub(crate) fn member_fund<B: Balances>(book: &B, member: usize) -> u64
-    ensures { result ≡ fund (holds book.now) member }
+    ensures { result ≡ fund (B.holds book.now) member }
 {
     if member < MEMBERS {
         book.fund(member)
@@ -75,8 +75,8 @@ pub(crate) fn member_fund<B: Balances>(book: &B, member: usize) -> u64
 }
 
 pub(crate) fn charge<B: Balances>(book: &mut B, member: usize, amount: u64) -> Decision
-    ensures answer { result ≡ decides_charge (holds book.old) member amount }
-    ensures funds { holds book.new ≡ after_charge (holds book.old) member amount result }
+    ensures answer { result ≡ decides_charge (B.holds book.old) member amount }
+    ensures funds { B.holds book.new ≡ after_charge (B.holds book.old) member amount result }
 {
     let house = book.house();
     let decision = decide_move(member, amount, member_fund(book, member), house);
@@ -88,8 +88,8 @@ pub(crate) fn charge<B: Balances>(book: &mut B, member: usize, amount: u64) -> D
 }
 
 pub(crate) fn credit<B: Balances>(book: &mut B, member: usize, amount: u64) -> Decision
-    ensures answer { result ≡ decides_credit (holds book.old) member amount }
-    ensures funds { holds book.new ≡ after_credit (holds book.old) member amount result }
+    ensures answer { result ≡ decides_credit (B.holds book.old) member amount }
+    ensures funds { B.holds book.new ≡ after_credit (B.holds book.old) member amount result }
 {
     let house = book.house();
     let decision = decide_move(member, amount, house, member_fund(book, member));
@@ -101,8 +101,8 @@ pub(crate) fn credit<B: Balances>(book: &mut B, member: usize, amount: u64) -> D
 }
 
 pub(crate) fn top_up<B: Balances>(book: &mut B, member: usize, amount: u64) -> Decision
-    ensures answer { result ≡ decides_top_up (holds book.old) member amount }
-    ensures funds { holds book.new ≡ after_top_up (holds book.old) member amount result }
+    ensures answer { result ≡ decides_top_up (B.holds book.old) member amount }
+    ensures funds { B.holds book.new ≡ after_top_up (B.holds book.old) member amount result }
 {
     let decision = decide_inflow(member, amount, member_fund(book, member));
     if decision == Decision::Approved {

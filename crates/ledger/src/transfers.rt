@@ -16,8 +16,8 @@ pub enum Transfer {
 
 // Makes one transfer.
 pub fn make<L: Ledger>(ledger: &mut L, transfer: Transfer) -> Decision
-    ensures answer { result ≡ decides (means ledger.old) transfer }
-    ensures funds { means ledger.new ≡ after (means ledger.old) transfer result }
+    ensures answer { result ≡ decides (L.means ledger.old) transfer }
+    ensures funds { L.means ledger.new ≡ after (L.means ledger.old) transfer result }
 {
     match transfer {
         Transfer::Charge { member, amount } => ledger.charge(member, amount),
@@ -34,8 +34,8 @@ pub fn run<L: Ledger>(
     answers: &mut [Decision],
 ) -> Result<(), Fault>
     ensures answer { result ≡ raised (check (nat_le (length transfers.now) (length answers.old)) ListLength) }
-    ensures decided { answers.new ≡ granted_or result (decisions (means ledger.old) transfers.now ++ drop (length transfers.now) answers.old) answers.old }
-    ensures funds { means ledger.new ≡ granted_or result (funds_after (means ledger.old) transfers.now) (means ledger.old) }
+    ensures decided { answers.new ≡ granted_or result (decisions (L.means ledger.old) transfers.now ++ drop (length transfers.now) answers.old) answers.old }
+    ensures funds { L.means ledger.new ≡ granted_or result (funds_after (L.means ledger.old) transfers.now) (L.means ledger.old) }
 {
     demand(transfers.len() <= answers.len(), Refusal::ListLength)?;
     for (i, transfer) in transfers.iter().enumerate() {
@@ -51,10 +51,10 @@ pub fn side_by_side<L: Ledger, R: Ledger>(
     second: &mut R,
     transfers: &[Transfer],
 ) -> bool
-    ensures answer { Decides result (decisions (L.Ledger.means first.old) transfers.now ≡ decisions (R.Ledger.means second.old) transfers.now) }
-    ensures first { L.Ledger.means first.new ≡ funds_after (L.Ledger.means first.old) transfers.now }
-    ensures second { R.Ledger.means second.new ≡ funds_after (R.Ledger.means second.old) transfers.now }
-    ensures equal { L.Ledger.means first.old ≡ R.Ledger.means second.old → (result ≡ true) × (L.Ledger.means first.new ≡ R.Ledger.means second.new) }
+    ensures answer { Decides result (decisions (L.means first.old) transfers.now ≡ decisions (R.means second.old) transfers.now) }
+    ensures first { L.means first.new ≡ funds_after (L.means first.old) transfers.now }
+    ensures second { R.means second.new ≡ funds_after (R.means second.old) transfers.now }
+    ensures equal { L.means first.old ≡ R.means second.old → (result ≡ true) × (L.means first.new ≡ R.means second.new) }
 {
     let mut alike = true;
     for transfer in transfers {

@@ -2,7 +2,6 @@
 ghost use Rattle.std.specs.Prelude.{◌≡◌};
 ghost use Rattle.ledger.specs.Deposits.{deposits};
 ghost use Rattle.ledger.specs.Openings.{opened, meaning};
-ghost use Rattle.std.proofs.Common.{rules, arith};
 
 use crate::balances::Balances;
 use crate::deposit::DepositBook;
@@ -23,7 +22,7 @@ impl DepositBook {
 impl Balances for DepositBook {
     ghost holds = { deposits };
 
-    ghost limited = { first_of (Prim.search rules, Prim.grind (arith, Self.row.coded.inj)) };
+    ghost limited = { λ b. (b.wide, b.limited, b.ceiling) };
 
     fn fund(&self, member: usize) -> u64 {
         self.members[member]
@@ -49,7 +48,7 @@ impl Balances for DepositBook {
 impl Ledger for DepositBook {
     ghost means = { deposits };
 
-    ghost whole = { first_of (Prim.search rules, Prim.grind (arith, Self.row.coded.inj)) };
+    ghost whole = { λ b. (b.wide, b.limited, b.ceiling) };
 
     fn charge(&mut self, member: usize, amount: u64) -> Decision {
         balances::charge(self, member, amount)

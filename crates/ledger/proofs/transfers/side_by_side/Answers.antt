@@ -1,8 +1,10 @@
+use denote.Enum.Bare.{differs_true, differs_false}
 use Rattle.std.proofs.Common.{◌≡◌, get_or, drop, sym, ap, ◌∙◌}
+use Rattle.ledger.specs.contracts.Decision.{the_type}
 use Rattle.ledger.specs.declared.transfers.Transfer.TheVariants.{Charge}
 use Rattle.ledger.specs.Laws.{Step}
 use Rattle.ledger.specs.Transfers.{decisions, funds_after}
-use Rattle.ledger.proofs.Runs.{funds_more, decisions-more, funds_all, decisions_all, ne_told, still_alike, not_alike}
+use Rattle.ledger.proofs.Runs.{funds_more, decisions-more, funds_all, decisions_all, still_alike, not_alike}
 use Rattle.ledger.proofs.transfers.side_by_side.Goals as goal
 use Rattle.ledger.proofs.transfers.side_by_side.Goals.{then-ne, else-ne}
 
@@ -21,13 +23,12 @@ loop-transfer-preserved g c =
     let within = c.loop-transfer-test.true in
     let p = decisions-more f f' ts i d within one in
     let q = decisions-more h h' ts i e within two in
-    let told = ne_told d e c.ne.result c.ne.ensures.0 c.ne.ensures.1 c.ne.ensures.2 in
     let inv = c.loop-transfer.invariant in
     let funds = funds_more f f' ts i d within one ∙ inv.0 in
     let funds' = funds_more h h' ts i e within two ∙ inv.1 in
     elim c.if-ne.branch [
-      | then-ne w ↦ let r = not_alike _ _ _ _ d e c.loop-transfer.alike c.if-ne.alike p q inv.2 inv.3 (told.0 w.if-ne.true) w.alike-is in (funds, funds', r.0, r.1)
-      | else-ne w ↦ let r = still_alike _ _ _ _ d e c.loop-transfer.alike c.if-ne.alike p q inv.2 inv.3 (told.1 w.if-ne.false) w.alike-is in (funds, funds', r.0, r.1)
+      | then-ne w ↦ let r = not_alike _ _ _ _ d e c.loop-transfer.alike c.if-ne.alike p q inv.2 inv.3 (differs_true the_type d e (sym c.ne.ensures ∙ w.if-ne.true)) w.alike-is in (funds, funds', r.0, r.1)
+      | else-ne w ↦ let r = still_alike _ _ _ _ d e c.loop-transfer.alike c.if-ne.alike p q inv.2 inv.3 (differs_false the_type tt d e (sym c.ne.ensures ∙ w.if-ne.false)) w.alike-is in (funds, funds', r.0, r.1)
     ]
 
 pub returns : goal.returns

@@ -7,4 +7,8 @@ use Rattle.ledger.proofs.lines.LineBook.put.Goals as goal
 pub invariant_of-self : goal.invariant_of-self
 invariant_of-self c =
     let b = c.args.self.now in
-    (length-set b.lines c.args.member _ ∙ b.wide, (each_set Fair (undrawn 0) b.lines c.args.member _ c.requires.fair b.fair, (b.ceiling, tt)))
+    record {
+      wide = length-set b.lines c.args.member _ ∙ b.wide;
+      fair = each_set Fair (undrawn 0) b.lines c.args.member _ c.requires.fair b.fair;
+      ceiling = b.ceiling;
+    }

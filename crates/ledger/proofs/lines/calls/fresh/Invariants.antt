@@ -1,4 +1,4 @@
-use Rattle.std.proofs.Common.{◌≡◌, ◌-◌, ◌≤◌, ◌++◌, map, length, take, replicate}
+use Rattle.std.proofs.Common.{◌≡◌, ◌-◌, ◌≤◌, ◌++◌, map, take, replicate}
 use Rattle.ledger.specs.Lines.{undrawn}
 use Rattle.ledger.proofs.lines.calls.fresh.Given as goal
 
