@@ -130,8 +130,8 @@ answering_ok b r i ev h =
     let same : ◌≡◌ {A = ℕ × Event} (f.0, a.0) (i, ev) = let z = a.2 in cc in
     subst (λ (p : ℕ × Event). (found b r.number ≡ Ok p.0) × (answer_of (length b.accounts) (get_or b.swaps p.0 blank) r ≡ Ok p.1)) same (f.1, a.1)
 
-pub ask-one : (b : Reading) (r : Request) (q : ℕ × State) → asked b r ≡ Ok q → OneChanged b r.number q
-ask-one b r q h = let d = stepped_ok b (asking b r) q h in one-changed b r.number q (asking_ok b r q.0 d.0 d.1).0
+pub ask_one : (b : Reading) (r : Request) (q : ℕ × State) → asked b r ≡ Ok q → OneChanged b r.number q
+ask_one b r q h = let d = stepped_ok b (asking b r) q h in one-changed b r.number q (asking_ok b r q.0 d.0 d.1).0
 
-pub answer-one : (b : Reading) (r : Reply) (q : ℕ × State) → replied b r ≡ Ok q → OneChanged b r.number q
-answer-one b r q h = let d = stepped_ok b (answering b r) q h in one-changed b r.number q (answering_ok b r q.0 d.0 d.1).0
+pub answer_one : (b : Reading) (r : Reply) (q : ℕ × State) → replied b r ≡ Ok q → OneChanged b r.number q
+answer_one b r q h = let d = stepped_ok b (answering b r) q h in one-changed b r.number q (answering_ok b r q.0 d.0 d.1).0

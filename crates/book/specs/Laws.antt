@@ -66,5 +66,5 @@ pub record BookLaws : Type 0 where
   pub never_again : (b : Reading) (cs : List Call) → RisesFrom b.given (numbers_of b cs)
   -- after an ask and a no, the book is what it was before the ask
   pub ask_then_no : (b : Reading) (r : Request) (p : Reply) (q z : ℕ × State) → asked b r ≡ Ok q → p.number ≡ r.number → p.agrees ≡ false → replied (changed b q) p ≡ Ok z → changed (changed b q) z ≡ b
-  pub ask-one : (b : Reading) (r : Request) (q : ℕ × State) → asked b r ≡ Ok q → OneChanged b r.number q
-  pub answer-one : (b : Reading) (r : Reply) (q : ℕ × State) → replied b r ≡ Ok q → OneChanged b r.number q
+  pub ask_one : (b : Reading) (r : Request) (q : ℕ × State) → asked b r ≡ Ok q → OneChanged b r.number q
+  pub answer_one : (b : Reading) (r : Reply) (q : ℕ × State) → replied b r ≡ Ok q → OneChanged b r.number q

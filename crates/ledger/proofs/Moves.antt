@@ -52,13 +52,13 @@ rejected f f' (TopUp m a) step = step.1
 total-set : (f : Funds) (m x : ℕ) → Whole f → m < 32 → sum (set f.members m x) + fund f m ≡ sum f.members + x
 total-set f m x whole h = let wide = whole.0 in sum_by-set (λ y. y) f.members m x 0 (omega arith)
 
-pub charge-total : (f f' : Funds) (m a : ℕ) (d : Decision) → Whole f → Step f (Charge m a) d f' → total f' ≡ total f
-charge-total f f' m a Approved whole step =
+pub charge_total : (f f' : Funds) (m a : ℕ) (d : Decision) → Whole f → Step f (Charge m a) d f' → total f' ≡ total f
+charge_total f f' m a Approved whole step =
     let able = move_approved m a (fund f m) f.house step.0 in
     let h = able.1 in
     let s = total-set f m (fund f m - a) whole able.0.0 in
     ap total step.1 ∙ omega arith
-charge-total f f' m a Rejected whole step = ap total step.1
+charge_total f f' m a Rejected whole step = ap total step.1
 
 pub credit_total : (f f' : Funds) (m a : ℕ) (d : Decision) → Whole f → Step f (Credit m a) d f' → total f' ≡ total f
 credit_total f f' m a Approved whole step =
@@ -116,7 +116,7 @@ limits f f' (TopUp m a) Approved whole step =
 
 -- what one transfer brings in, and then all of them
 step-total : (f f' : Funds) (t : Transfer) (d : Decision) → Whole f → Step f t d f' → total f' ≡ total f + paid_in t d
-step-total f f' (Charge m a) d whole step = let e = charge-total f f' m a d whole step in omega arith
+step-total f f' (Charge m a) d whole step = let e = charge_total f f' m a d whole step in omega arith
 step-total f f' (Credit m a) d whole step = let e = credit_total f f' m a d whole step in omega arith
 step-total f f' (TopUp m a) Approved whole step = top_up_total f f' m a whole step
 step-total f f' (TopUp m a) Rejected whole step = let e = ap total step.1 in omega arith

@@ -53,7 +53,7 @@ pub record LedgerLaws : Type 0 where
   -- these are the answers and the funds of the definitions
   pub defined : {f f' : Funds} {ts : List Transfer} {ds : List Decision} → Run f ts ds f' → (ds ≡ decisions f ts) × (f' ≡ funds_after f ts)
   -- a charge or a credit leaves the sum of all funds, and a top-up raises it by its amount
-  pub charge-total : (f f' : Funds) (m a : ℕ) (d : Decision) → Whole f → Step f (Charge m a) d f' → total f' ≡ total f
+  pub charge_total : (f f' : Funds) (m a : ℕ) (d : Decision) → Whole f → Step f (Charge m a) d f' → total f' ≡ total f
   pub credit_total : (f f' : Funds) (m a : ℕ) (d : Decision) → Whole f → Step f (Credit m a) d f' → total f' ≡ total f
   pub top_up_total : (f f' : Funds) (m a : ℕ) → Whole f → Step f (TopUp m a) Approved f' → total f' ≡ total f + a
   pub run_total : {f f' : Funds} {ts : List Transfer} {ds : List Decision} → Whole f → Run f ts ds f' → total f' ≡ total f + all_paid_in ts ds

@@ -1,4 +1,4 @@
-use Rattle.book.proofs.Lawful.{numbered, never_again, ask-one, answer-one}
+use Rattle.book.proofs.Lawful.{numbered, never_again, ask_one, answer_one}
 use Rattle.book.proofs.Restored.{ask_then_no}
 use Rattle.book.proofs.laws.book_laws.Goals as goal
 
@@ -8,6 +8,6 @@ returns c = record {
   fair = λ b k l. (b.between k l, b.limited k l, b.due k l);
   never_again = never_again;
   ask_then_no = ask_then_no;
-  ask-one = ask-one;
-  answer-one = answer-one;
+  ask_one = ask_one;
+  answer_one = answer_one;
 }

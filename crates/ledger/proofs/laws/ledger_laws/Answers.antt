@@ -5,7 +5,7 @@ pub returns : goal.returns
 returns c = record {
   equal = moves.equal;
   defined = moves.defined;
-  charge-total = moves.charge-total;
+  charge_total = moves.charge_total;
   credit_total = moves.credit_total;
   top_up_total = moves.top_up_total;
   run_total = moves.run_total;
