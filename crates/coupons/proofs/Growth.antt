@@ -4,7 +4,7 @@ use lib.Signed.{le_z}
 use Rattle.std.proofs.lemmas.Nat.{mul-le}
 use Rattle.std.proofs.lemmas.List.{at_drop_more, at_drop_all}
 use Rattle.std.proofs.lemmas.Int.{ints}
-use Rattle.std.specs.List.{AllByRecursion as All}
+use Rattle.std.specs.List.{AllByRecursion}
 use Rattle.refusal.specs.Checks.{check, ◌then◌}
 use Rattle.refusal.specs.declared.Refusal.TheVariants.{Factor}
 use Rattle.coupons.specs.declared.overnight.Observation.{Observation}
@@ -55,7 +55,7 @@ growth_rises f o some m =
     let low = range.0 in
     rises f (pos 36000000 +ℤ o.rate *ℤ o.days) some (omega (arith, ints))
 
-pub compounded_rises : (f : ℤ) (os : List Observation) → pos 0 ≤ℤ f → All Modest os → f ≤ℤ compounded f os
+pub compounded_rises : (f : ℤ) (os : List Observation) → pos 0 ≤ℤ f → AllByRecursion Modest os → f ≤ℤ compounded f os
 compounded_rises f [] some h = omega (arith, ints)
 compounded_rises f (o ∷ os) some h =
     let once = growth_rises f o some h.0 in

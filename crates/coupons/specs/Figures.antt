@@ -1,6 +1,6 @@
 -- Worked figures, of the definitions.
 use Rattle.std.specs.Prelude.{◌≡◌, ℕ, ◌<◌, List, [], ◌∷◌, ℤ, pos, neg_ℤ, ◌≤ℤ◌, Ok}
-use Rattle.std.specs.List.{AllByRecursion as All}
+use Rattle.std.specs.List.{AllByRecursion}
 use Rattle.coupons.specs.declared.overnight.Observation.{Observation}
 use Rattle.coupons.specs.Formulas.{simple, dollars, alignment}
 use Rattle.coupons.specs.Overnight.{compounded, points, overnight, Modest}
@@ -25,4 +25,4 @@ WorkedCoupons =
 pub record CouponLaws : Type 0 where
   pub near : (z : ℤ) (d : ℕ) → 0 < d → Nearest z d (rounded z d)
   pub odd : (z : ℤ) (d : ℕ) → 0 < d → rounded (neg_ℤ z) d ≡ neg_ℤ (rounded z d)
-  pub rising : (factor : ℤ) (os : List Observation) → pos 0 ≤ℤ factor → All Modest os → factor ≤ℤ compounded factor os
+  pub rising : (factor : ℤ) (os : List Observation) → pos 0 ≤ℤ factor → AllByRecursion Modest os → factor ≤ℤ compounded factor os

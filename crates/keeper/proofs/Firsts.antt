@@ -1,7 +1,7 @@
 -- The first k in order are the first k of all.
 use Rattle.std.proofs.Common.{◌≡◌, ℕ, zero, suc, Bool, true, false, cond, List, [], ◌∷◌, ◌++◌, take, drop, fold, sym, refl, subst, arith}
 use Rattle.std.specs.List.Sorted.{IsPermutation}
-use Rattle.std.specs.List.{AllByRecursion as All}
+use Rattle.std.specs.List.{AllByRecursion}
 use Rattle.std.proofs.lemmas.List.{append-nil, length-take, length-drop, take-append-drop}
 use Rattle.std.proofs.ByRecursion.{All-take, All-drop, All-weaker}
 use Rattle.std.proofs.lemmas.List.Sorted.{IsPermutation-refl, IsPermutation-cons, IsPermutation-trans, IsPermutation-swap, length_permutation}
@@ -35,11 +35,11 @@ module _ {T : Type 0} (o : Test T) where
   shuffled_ordered : (items : List T) → IsPermutation items (ordered o items)
   shuffled_ordered items = shuffled_onto [] items
 
-  all_insert : (P : T → Type 0) (e : T) (xs : List T) → P e → All P xs → All P (insert o e xs)
+  all_insert : (P : T → Type 0) (e : T) (xs : List T) → P e → AllByRecursion P xs → AllByRecursion P (insert o e xs)
   all_insert P e [] p h = (p, tt)
   all_insert P e (x ∷ xs) p h = go (o e x) (all_insert P e xs p h.1)
     where
-      go : (b : Bool) → All P (insert o e xs) → All P (cond b (e ∷ x ∷ xs) (x ∷ insert o e xs))
+      go : (b : Bool) → AllByRecursion P (insert o e xs) → AllByRecursion P (cond b (e ∷ x ∷ xs) (x ∷ insert o e xs))
       go true r = (p, h)
       go false r = (h.0, r)
 
@@ -49,7 +49,7 @@ module _ {T : Type 0} (o : Test T) where
   sorted-take (suc k) (x ∷ xs) s = (All-take (λ z. o z x ≡ false) k xs s.0, sorted-take k xs s.1)
 
   -- none past k comes before one up to k
-  sorted_parts : (k : ℕ) (xs : List T) → Sorted o xs → All (NoneBefore o (drop k xs)) (take k xs)
+  sorted_parts : (k : ℕ) (xs : List T) → Sorted o xs → AllByRecursion (NoneBefore o (drop k xs)) (take k xs)
   sorted_parts zero xs s = tt
   sorted_parts (suc k) [] s = tt
   sorted_parts (suc k) (x ∷ xs) s = (All-drop (λ z. o z x ≡ false) k xs s.0, sorted_parts k xs s.1)

@@ -1,6 +1,6 @@
 -- The nets of members.
 use Rattle.std.proofs.Common.{◌≡◌, ℕ, ◌<◌, Bool, true, false, cond, eqb, List, [], ◌∷◌, map, length, sym, refl, ap, ◌∙◌, arith}
-use Rattle.std.specs.List.{AllByRecursion as All}
+use Rattle.std.specs.List.{AllByRecursion}
 use Rattle.std.proofs.lemmas.Bool.Decides.{nat_tests}
 use Rattle.netting.specs.Group.{Group, Lawful}
 use Rattle.netting.specs.Nets.{only, share_of, net_of, sum_below, member_of, member_net, Within, between_members}
@@ -41,7 +41,7 @@ module _ {F : Type 0} (g : Group F) (w : Lawful g) where
       let s = sum_seat members n e.short m (g.neg e.figure) h.1 in
       cc
 
-  seated : (members : List ℕ) (n m : ℕ) (es : List (Entry F)) → All (Within n) es →
+  seated : (members : List ℕ) (n m : ℕ) (es : List (Entry F)) → AllByRecursion (Within n) es →
       sum_below g n (λ a. only g (member_of members a) (net_of g es a) m) ≡ net_of g (map (between_members members) es) m
   seated members n m [] h = sum_same g n (λ a. only g (member_of members a) g.none m) (λ _. g.none) (λ a l. only_none (member_of members a) m) ∙ sum-none g w n
   seated members n m (e ∷ es) h =
@@ -51,15 +51,15 @@ module _ {F : Type 0} (g : Group F) (w : Lawful g) where
       let s = seated members n m es h.1 in
       cc
 
-  pub members_between : (members : List ℕ) (es : List (Entry F)) (m : ℕ) → All (Within (length members)) es → member_net g members (net_of g es) m ≡ net_of g (map (between_members members) es) m
+  pub members_between : (members : List ℕ) (es : List (Entry F)) (m : ℕ) → AllByRecursion (Within (length members)) es → member_net g members (net_of g es) m ≡ net_of g (map (between_members members) es) m
   members_between members es m h = seated members (length members) m es h
 
-  all_seated : (members : List ℕ) (n k : ℕ) (es : List (Entry F)) → ((a : ℕ) → a < n → member_of members a < k) → All (Within n) es → All (Within k) (map (between_members members) es)
+  all_seated : (members : List ℕ) (n k : ℕ) (es : List (Entry F)) → ((a : ℕ) → a < n → member_of members a < k) → AllByRecursion (Within n) es → AllByRecursion (Within k) (map (between_members members) es)
   all_seated members n k [] below h = tt
   all_seated members n k (e ∷ es) below h = ((below e.long h.0.0, below e.short h.0.1), all_seated members n k es below h.1)
 
   pub members-balanced : (k : ℕ) (members : List ℕ) (es : List (Entry F)) → ((a : ℕ) → a < length members → member_of members a < k) →
-      All (Within (length members)) es → sum_below g k (member_net g members (net_of g es)) ≡ g.none
+      AllByRecursion (Within (length members)) es → sum_below g k (member_net g members (net_of g es)) ≡ g.none
   members-balanced k members es below h =
       sum_same g k (member_net g members (net_of g es)) (net_of g (map (between_members members) es)) (λ m l. members_between members es m h)
       ∙ balanced g w k (map (between_members members) es) (all_seated members (length members) k es below h)

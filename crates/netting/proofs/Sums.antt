@@ -1,6 +1,6 @@
 -- Sums over accounts, and that the nets of all accounts come to nothing.
 use Rattle.std.proofs.Common.{◌≡◌, ℕ, zero, suc, ◌+◌, ◌<◌, ◌≤◌, Bool, true, false, eqb, ◌≢◌, List, [], ◌∷◌, ◌++◌, length, get_or, take, sym, refl, ap, ◌∙◌, add-one, arith}
-use Rattle.std.specs.List.{AllByRecursion as All}
+use Rattle.std.specs.List.{AllByRecursion}
 use Rattle.std.proofs.lemmas.Bool.Decides.{nat_tests}
 use Rattle.std.proofs.lemmas.List.{take_more}
 use Rattle.netting.specs.Group.{Group, Lawful}
@@ -84,7 +84,7 @@ module _ {F : Type 0} (g : Group F) (w : Lawful g) where
       let z = w.add-neg e.figure in
       cc
 
-  pub balanced : (n : ℕ) (es : List (Entry F)) → All (Within n) es → sum_below g n (net_of g es) ≡ g.none
+  pub balanced : (n : ℕ) (es : List (Entry F)) → AllByRecursion (Within n) es → sum_below g n (net_of g es) ≡ g.none
   balanced n [] h = sum-none n
   balanced n (e ∷ es) h =
       let s = sum-add n (share_of g e) (net_of g es) in

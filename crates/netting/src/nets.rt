@@ -1,6 +1,6 @@
 // The nets of accounts: the figures where an account is long, and their opposites where it is short.
 ghost use Rattle.std.specs.Prelude.{◌≡◌, ℕ, ◌*◌, ◌<◌, ◌≤◌, length, slice_index_or};
-ghost use Rattle.std.specs.List.{AllByRecursion as All};
+ghost use Rattle.std.specs.List.{AllByRecursion};
 ghost use Rattle.netting.specs.Group.{limit};
 ghost use Rattle.netting.specs.Nets.{share_of, net_of, weight, together, weighed, Within};
 ghost use Rattle.netting.specs.Laws.{NettingLaws};
@@ -51,7 +51,7 @@ pub fn net_of<F: Figure>(entries: &[Entry<F>], account: usize) -> F
 pub fn nets_into<F: Figure>(entries: &[Entry<F>], nets: &mut [F])
     requires { 2 * weight F.group entries.now ≤ limit }
     ensures each { (k : ℕ) (d : F) → k < length nets.new → slice_index_or nets.new k d ≡ net_of F.group entries.now k }
-    ensures balanced { All (Within (length nets.old)) entries.now → together F.group nets.new ≡ F.group.none }
+    ensures balanced { AllByRecursion (Within (length nets.old)) entries.now → together F.group nets.new ≡ F.group.none }
     ensures light { weighed F.group nets.new ≤ 2 * weight F.group entries.now }
 {
     for a in 0..nets.len() {

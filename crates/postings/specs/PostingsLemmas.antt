@@ -1,7 +1,7 @@
 -- The laws of postings, figure by figure.
 use Rattle.std.specs.Prelude.{◌≡◌, ℕ, ◌<◌, ◌≤◌, List, length, ℤ, pos, nat_abs, refl}
 use Rattle.std.proofs.Common.{sym, ap, ◌∙◌, arith}
-use Rattle.std.specs.List.{AllByRecursion as All}
+use Rattle.std.specs.List.{AllByRecursion}
 use Rattle.std.proofs.lemmas.Int.{ints}
 use Rattle.netting.specs.Group.{Lawful, Additive}
 use Rattle.netting.specs.Whole.{wholes}

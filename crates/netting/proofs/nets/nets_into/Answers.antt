@@ -1,5 +1,5 @@
 use Rattle.std.proofs.Common.{◌≡◌, ℕ, ◌<◌, length, get_or, sym, ◌∙◌, subst, arith}
-use Rattle.std.specs.List.{AllByRecursion as All}
+use Rattle.std.specs.List.{AllByRecursion}
 use Rattle.std.proofs.lemmas.List.Edits.{fill_by_more}
 use Rattle.netting.specs.Nets.{net_of, Within}
 use Rattle.netting.proofs.Sums.{balanced, together-sum}
@@ -20,6 +20,6 @@ returns g c =
     let each : (k : ℕ) (d : g.row.F.Denot) → k < length xs → get_or xs k d ≡ net_of m es k = λ k d l. c.loop-a.invariant k d (omega arith) in
     record {
       each = each;
-      balanced = λ within. together-sum m w xs (net_of m es) each ∙ balanced m w (length xs) es (subst (λ n. All (Within n) es) (sym c.loop-a.auto.nets) within);
+      balanced = λ within. together-sum m w xs (net_of m es) each ∙ balanced m w (length xs) es (subst (λ n. AllByRecursion (Within n) es) (sym c.loop-a.auto.nets) within);
       light = nets_weigh m w es xs each;
     }
