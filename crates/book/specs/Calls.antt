@@ -1,5 +1,5 @@
 -- What the calls of a book answer, and what it holds then.
-use Rattle.std.specs.Prelude.{ℕ, ◌+◌, cond, not, List, [], ◌∷◌, ◌++◌, length, get_or, ℤ, Some, None, Ok, Err, Option, Result, ◌==◌, nat_lt, slice_index_or, slice_set}
+use Rattle.std.specs.Prelude.{ℕ, ◌+◌, cond, not, List, [], ◌∷◌, ◌++◌, length, ℤ, Some, None, Ok, Err, Option, Result, ◌==◌, nat_lt, slice_index_or, slice_set}
 use Rattle.refusal.specs.declared.Refusal.{Refusal}
 use Rattle.refusal.specs.declared.Refusal.TheVariants.{OutOfRange, SameAccount, Session, BookFull, NoSuchSwap, JustRegistered, NumbersUsedUp}
 use Rattle.refusal.specs.Checks.{check, ◌then◌, ◌into◌, count_of}
@@ -96,7 +96,7 @@ answering b r =
 abbrev pub stepped : Reading → Result (ℕ × Event) Refusal → Result (ℕ × State) Refusal
 stepped b r =
     r into λ q.
-    after_event (get_or b.swaps q.0 blank).state q.1 into λ state.
+    after_event (slice_index_or b.swaps q.0 blank).state q.1 into λ state.
     Ok (q.0, state)
 
 abbrev pub asked : Reading → Request → Result (ℕ × State) Refusal

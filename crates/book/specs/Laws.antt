@@ -1,5 +1,5 @@
 -- What the book promises, whatever calls it has had.
-use Rattle.std.specs.Prelude.{◌≡◌, ℕ, ◌<◌, ◌≤◌, false, List, [], ◌∷◌, ◌++◌, length, get_or, ℤ, pos, Ok, Err, Result, ◌≢◌, slice_index_or}
+use Rattle.std.specs.Prelude.{◌≡◌, ℕ, ◌<◌, ◌≤◌, false, List, [], ◌∷◌, ◌++◌, length, ℤ, pos, Ok, Err, Result, ◌≢◌, slice_index_or}
 use Rattle.refusal.specs.declared.Refusal.{Refusal}
 use Rattle.book.specs.declared.book.Book.{Book}
 use Rattle.book.specs.declared.calls.Offer.{Offer}
@@ -13,8 +13,8 @@ use Rattle.book.specs.Calls.{offered, asked, replied, after, taken, changed, wit
 
 -- live numbers rise strictly, and none is above the last one given
 pub record Numbered (b : Reading) : Type 0 where
-  pub rise : (i j : ℕ) → i < j → j < length b.swaps → (get_or b.swaps i blank).number < (get_or b.swaps j blank).number
-  pub issued : (k : ℕ) → k < length b.swaps → (get_or b.swaps k blank).number ≤ b.given
+  pub rise : (i j : ℕ) → i < j → j < length b.swaps → (slice_index_or b.swaps i blank).number < (slice_index_or b.swaps j blank).number
+  pub issued : (k : ℕ) → k < length b.swaps → (slice_index_or b.swaps k blank).number ≤ b.given
 
 -- any call that does not open the book anew
 pub data Call : Type 0 where
@@ -49,8 +49,8 @@ RisesFrom low (n ∷ ns) = (low < n) × RisesFrom n ns
 
 -- a call on the swap of that number changes its state, and no other swap and nothing else in the book
 pub record OneChanged (b : Reading) (number : ℤ) (q : ℕ × State) : Type 0 where
-  pub that : pos (get_or b.swaps q.0 blank).number ≡ number
-  pub its_state : get_or (changed b q).swaps q.0 blank ≡ with_state (slice_index_or b.swaps q.0 blank) q.1
+  pub that : pos (slice_index_or b.swaps q.0 blank).number ≡ number
+  pub its_state : slice_index_or (changed b q).swaps q.0 blank ≡ with_state (slice_index_or b.swaps q.0 blank) q.1
   pub others : (k : ℕ) → (k ≢ q.0) → slice_index_or (changed b q).swaps k blank ≡ slice_index_or b.swaps k blank
   pub as_many : length (changed b q).swaps ≡ length b.swaps
   pub members : (changed b q).members ≡ b.members

@@ -1,3 +1,4 @@
+-- That the order of runners is a total order, in the numbers of their times.
 use Rattle.std.specs.Prelude.{◌≡◌, true, false, ℤ, int_lt}
 use Rattle.std.proofs.Common.{arith}
 use Rattle.std.proofs.lemmas.Int.{ints}
