@@ -2,7 +2,7 @@
 use Rattle.std.specs.Prelude.{ℕ, Bool, cond, ◌&&◌, ℤ, pos, ◌-ℤ◌, Ok, Err, Result, int_le, unsigned_abs}
 use Rattle.refusal.specs.declared.Refusal.{Refusal}
 use Rattle.refusal.specs.declared.Fault.{Fault}
-use Rattle.refusal.specs.Refusals.{bare, on_line}
+use Rattle.refusal.specs.Refusals.{bare, on_line, on_observation}
 
 -- a figure lies within limits, both inclusive
 unfoldable pub within : ℤ → ℤ → ℤ → Bool
@@ -37,3 +37,8 @@ raised (Err e) = Err (bare e)
 abbrev pub placed : {X : Type 0} → ℕ → Result X Refusal → Result X Fault
 placed line (Ok x) = Ok x
 placed line (Err e) = Err (on_line line (bare e))
+
+-- a refusal from below, as a fault at an observation
+abbrev pub seen : {X : Type 0} → ℕ → Result X Refusal → Result X Fault
+seen observation (Ok x) = Ok x
+seen observation (Err e) = Err (on_observation observation (bare e))

@@ -3,7 +3,7 @@
 
 ghost use Rattle.std.specs.Prelude.{◌≡◌, ◌<◌, ◌≤◌, IfOk};
 ghost use Rattle.refusal.specs.Refusals.{number, bare, on_line, on_observation};
-ghost use Rattle.refusal.specs.Checks.{within, check, count_of, placed};
+ghost use Rattle.refusal.specs.Checks.{within, check, count_of, placed, seen};
 
 #[cfg(test)]
 mod tests;
@@ -121,7 +121,7 @@ impl Fault {
 pub fn inside(low: i64, high: i64, figure: i64) -> bool
     ensures { result ≡ within low high figure }
 {
-    low <= figure && figure <= high
+    (low..=high).contains(&figure)
 }
 
 // One check of several: it passes, or it gives its refusal.
@@ -147,8 +147,12 @@ pub fn counted(low: u32, end: u32, figure: i64, refusal: Refusal) -> Result<u32,
 pub fn on_line<T>(res: Result<T, Refusal>, line: u32) -> Result<T, Fault>
     ensures { result ≡ placed line res }
 {
-    match res {
-        Ok(x) => Ok(x),
-        Err(refusal) => Err(Fault::from(refusal).at_line(line)),
-    }
+    res.map_err(|refusal| Fault::from(refusal).at_line(line))
+}
+
+// An answer from below, with a refusal at the observation that met it.
+pub fn on_observation<T>(res: Result<T, Refusal>, observation: u32) -> Result<T, Fault>
+    ensures { result ≡ seen observation res }
+{
+    res.map_err(|refusal| Fault::from(refusal).at_observation(observation))
 }

@@ -3,10 +3,6 @@ use Rattle.std.proofs.lemmas.Int.{ints}
 use Rattle.refusal.specs.Checks.{within}
 use Rattle.refusal.proofs.inside.Goals as goal
 
-pub returns-then-low-figure : goal.returns-then-low-figure
+pub returns : goal.returns
 unfolding within
-returns-then-low-figure c = grind (arith, ints)
-
-pub returns-else-low-figure : goal.returns-else-low-figure
-unfolding within
-returns-else-low-figure c = grind (arith, ints)
+returns c = let v = c.contains.ensures.value in let s = c.new.ensures.start in let e = c.new.ensures.end in let x = c.new.ensures.exhausted in rw (v, s, e, x) (grind (arith, ints))
