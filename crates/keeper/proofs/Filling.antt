@@ -2,8 +2,8 @@
 use Rattle.std.proofs.Common.{◌≡◌, min, List, [], ◌∷◌, ◌++◌, length, drop, sym, refl, ap, ◌∙◌, subst, arith}
 use Rattle.keeper.specs.Order.{Test, TotalOrder, first_of}
 use Rattle.keeper.specs.First.{FirstOf}
-use Rattle.keeper.specs.Keeping.{room, held_by, Sound, Put, Holds}
-use Rattle.keeper.specs.declared.Keeper.{Keeper}
+use Rattle.keeper.specs.Keeping.{room, held_by, Put, Holds}
+use Rattle.keeper.specs.declared.kept.Keeper.{Keeper}
 use Rattle.keeper.proofs.Inserts.{drop_later}
 use Rattle.keeper.proofs.Firsts.{first_of-FirstOf}
 use Rattle.keeper.proofs.Puts.{holds_none, holds_put}
@@ -18,9 +18,6 @@ pub record Filling {T : Type 0} (o : Test T) (start : Keeper T) (items : List T)
 module _ {T : Type 0} (o : Test T) where
   pub filling_none : (k : Keeper T) → k.filled ≡ 0 → Filling o k [] k
   filling_none k e = record { wide = refl; holds = holds_none o k e; rest = refl; lent = refl }
-
-  pub filling_sound : (start : Keeper T) (items : List T) (k : Keeper T) → Filling o start items k → Sound k
-  filling_sound start items k f = let n = f.holds.count in omega arith
 
   pub filling_put : (start : Keeper T) (items : List T) (k : Keeper T) (e : T) (after : Keeper T) → Filling o start items k → Put o k e after → after.places.ghost_name ≡ k.places.ghost_name → Filling o start (items ++ e ∷ []) after
   filling_put start items k e after f p lent =

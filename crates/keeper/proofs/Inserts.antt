@@ -1,6 +1,14 @@
 -- Insertion, step by step.
-use Rattle.std.proofs.Common.{◌≡◌, ℕ, zero, suc, ◌+◌, ◌-◌, ◌<◌, ◌≤◌, Bool, true, false, cond, List, [], ◌∷◌, ◌++◌, length, get_or, take, drop, set, sym, refl, ap, ◌∙◌, add-zero, arith}
-use Rattle.std.proofs.lemmas.List.{take_more, drop_more, drop_all, take_all, append_assoc, take_more_set, drop-set-lt, drop-drop, get_or-take, get_or-drop, length-take-le, take_at, take-take}
+use Rattle.std.proofs.Common.{◌≡◌, ℕ, zero, suc, ◌+◌, ◌-◌, ◌<◌, ◌≤◌, Bool, true, false, cond, not, List, [], ◌∷◌, ◌++◌, length, get_or, take, drop, set, sym, refl, ap, ◌∙◌, arith}
+use Rattle.std.proofs.Math.Seq.{take-append-add}
+use Rattle.std.specs.Prelude.{Option, Some, None, position, unwrap_or, nat_lt}
+use Rattle.std.specs.List.{position_or_len}
+use Rattle.std.proofs.lemmas.Bool.Decides.{nat_tests}
+use Rattle.std.proofs.lemmas.List.Sums.{prefix_len-le-length}
+use Rattle.std.proofs.lemmas.List.{drop_more, drop_all, take_all, drop-drop, length-take-le, length-drop, take-take, drop-take}
+use Rattle.std.proofs.lemmas.Slice.{take-put_mid, drop-put_mid}
+use borrow.Rule.Slice.PartMut.{put_mid, mid_of}
+use mathlib.Core.Logic.{◌⊎◌, inl, inr}
 use Rattle.keeper.specs.Order.{Test, insert}
 
 module _ {T : Type 0} (o : Test T) where
@@ -12,82 +20,75 @@ module _ {T : Type 0} (o : Test T) where
       go true r = omega arith
       go false r = omega arith
 
-  -- one more that does not come after e
-  pub spot_more : (e : T) (held : List T) (i : ℕ) (x : T) → i < length held → x ≡ get_or held i x → o e x ≡ false →
-      insert o e held ≡ take i held ++ insert o e (drop i held) → insert o e held ≡ take (i + 1) held ++ insert o e (drop (i + 1) held)
-  spot_more e held i x l read not inv =
-      let d : drop i held ≡ x ∷ drop (i + 1) held = drop_more held i x l ∙ ap (λ y. y ∷ drop (i + 1) held) (sym read) in
-      let t : take (i + 1) held ≡ take i held ++ x ∷ [] = take_more held i x l ∙ ap (λ y. take i held ++ y ∷ []) (sym read) in
-      let s : insert o e (x ∷ drop (i + 1) held) ≡ x ∷ insert o e (drop (i + 1) held) = rw not refl in
-      inv ∙ ap (λ r. take i held ++ insert o e r) d ∙ ap (λ r. take i held ++ r) s
-      ∙ sym (append_assoc (take i held) (x ∷ []) (insert o e (drop (i + 1) held))) ∙ ap (λ r. r ++ insert o e (drop (i + 1) held)) (sym t)
+  -- it goes before the first that it comes before, or behind the last
+  pub spot_splits : (e : T) (xs : List T) → insert o e xs ≡ take (position_or_len (o e) xs) xs ++ e ∷ drop (position_or_len (o e) xs) xs
+  spot_splits e [] = refl
+  spot_splits e (x ∷ xs) = go (o e x) (spot_splits e xs)
+    where
+      go : (b : Bool) → insert o e xs ≡ take (position_or_len (o e) xs) xs ++ e ∷ drop (position_or_len (o e) xs) xs →
+          cond b (e ∷ x ∷ xs) (x ∷ insert o e xs) ≡ take (cond (not b) (1 + position_or_len (o e) xs) 0) (x ∷ xs) ++ e ∷ drop (cond (not b) (1 + position_or_len (o e) xs) 0) (x ∷ xs)
+      go true r = refl
+      go false r = let next : 1 + position_or_len (o e) xs ≡ suc (position_or_len (o e) xs) = omega arith in rw next (ap (λ l. x ∷ l) r)
 
-  pub spot_found : (e : T) (held : List T) (i : ℕ) (x : T) → i < length held → x ≡ get_or held i x → o e x ≡ true →
-      insert o e held ≡ take i held ++ insert o e (drop i held) → insert o e held ≡ take i held ++ e ∷ drop i held
-  spot_found e held i x l read comes inv =
-      let d : drop i held ≡ x ∷ drop (i + 1) held = drop_more held i x l ∙ ap (λ y. y ∷ drop (i + 1) held) (sym read) in
-      let s : insert o e (x ∷ drop (i + 1) held) ≡ e ∷ x ∷ drop (i + 1) held = rw comes refl in
-      inv ∙ ap (λ r. take i held ++ insert o e r) d ∙ ap (λ r. take i held ++ r) s ∙ ap (λ r. take i held ++ e ∷ r) (sym d)
+  pub record Spot (e : T) (xs : List T) (i : ℕ) : Type 0 where
+    pub within : i ≤ length xs
+    pub splits : insert o e xs ≡ take i xs ++ e ∷ drop i xs
 
-  pub spot_all : (e : T) (held : List T) (i : ℕ) → length held ≤ i →
-      insert o e held ≡ take i held ++ insert o e (drop i held) → insert o e held ≡ take i held ++ e ∷ drop i held
-  spot_all e held i l inv =
-      let d = drop_all i held l in
-      inv ∙ ap (λ r. take i held ++ insert o e r) d ∙ ap (λ r. take i held ++ e ∷ r) (sym d)
-
--- what is carried goes into a place, and what was there is carried on
-pub record Carried {T : Type 0} (all P : List T) (n i : ℕ) (Q : List T) (c : T) : Type 0 where
-  pub before : take i Q ++ c ∷ drop i (take n P) ≡ all
-  pub after : drop i Q ≡ drop i P
-
-pub carried_more : {T : Type 0} (all P : List T) (n i : ℕ) (Q : List T) (c x : T) → i < n → n ≤ length P → length Q ≡ length P → x ≡ get_or Q i x →
-    Carried all P n i Q c → Carried all P n (i + 1) (set Q i c) x
-carried_more all P n i Q c x l m long read h =
-    let q : get_or Q i x ≡ get_or P i x = let a = get_or-drop i Q 0 x in let b = get_or-drop i P 0 x in let z = add-zero i in let s = ap (λ r. get_or r 0 x) h.after in cc in
-    let p : get_or (take n P) i x ≡ x = get_or-take n P i x l ∙ sym q ∙ sym read in
-    let d : drop i (take n P) ≡ x ∷ drop (i + 1) (take n P) = drop_more (take n P) i x (let k = length-take-le n P m in omega arith) ∙ ap (λ y. y ∷ drop (i + 1) (take n P)) p in
-    let t : take (i + 1) (set Q i c) ≡ take i Q ++ c ∷ [] = take_more_set Q i c (omega arith) in
-    record {
-      before = ap (λ r. r ++ x ∷ drop (i + 1) (take n P)) t ∙ append_assoc (take i Q) (c ∷ []) (x ∷ drop (i + 1) (take n P)) ∙ ap (λ r. take i Q ++ c ∷ r) (sym d) ∙ h.before;
-      after = drop-set-lt (i + 1) Q i c (omega arith) ∙ sym (drop-drop 1 i Q) ∙ ap (drop 1) h.after ∙ drop-drop 1 i P;
-    }
+  pub spot_at : (e : T) (xs : List T) (r : Option ℕ) (i : ℕ) → r ≡ position (o e) xs → i ≡ unwrap_or r (length xs) → Spot e xs i
+  spot_at e xs r i found at =
+      let n = position_or_len (o e) xs in
+      let few : n ≤ length xs = prefix_len-le-length (λ x. not (o e x)) xs in
+      let same : i ≡ n = at ∙ ap (λ q. unwrap_or q (length xs)) found ∙ go (nat_lt n (length xs)) n (length xs) refl few in
+      record { within = omega arith; splits = rw same (spot_splits e xs) }
+    where
+      go : (b : Bool) (n k : ℕ) → nat_lt n k ≡ b → n ≤ k → unwrap_or (cond b (Some n) None) k ≡ n
+      go true n k h few = refl
+      go false n k h few = let more : k ≤ n = grind (arith, nat_tests) in omega arith
 
 module _ {T : Type 0} where
-  pub carried_none : (all P : List T) (n i : ℕ) (x : T) → i ≤ n → all ≡ take i (take n P) ++ x ∷ drop i (take n P) → Carried all P n i P x
-  carried_none all P n i x l e = record { before = ap (λ r. r ++ x ∷ drop i (take n P)) (sym (take-take i n P l)) ∙ sym e; after = refl }
+  -- of a list with e put in at a, the first m
+  front_of : (a m n : ℕ) (P : List T) (e : T) → a < m → a ≤ n → m ≤ n + 1 → m ≤ length P →
+      take m (take a P ++ e ∷ take (n - a) (drop a P)) ≡ take a P ++ e ∷ take (m - a - 1) (drop a P)
+  front_of a m n P e l k j long =
+      let wide : length (take a P) ≡ a = length-take-le a P (omega arith) in
+      let split : m ≡ length (take a P) + suc (m - a - 1) = omega arith in
+      ap (λ i. take i (take a P ++ e ∷ take (n - a) (drop a P))) split ∙ take-append-add (take a P) (e ∷ take (n - a) (drop a P)) (suc (m - a - 1))
+      ∙ ap (λ r. take a P ++ e ∷ r) (take-take (m - a - 1) (n - a) (drop a P) (omega arith))
 
-  -- where the filled places end, what is carried is all that is left
-  last_carried : (all P Q : List T) (n i : ℕ) (c : T) → n ≤ length P → i ≡ n → Carried all P n i Q c → take n Q ++ c ∷ [] ≡ all
-  last_carried all P Q n i c m e h =
-      let k = length-take-le n P m in
-      let d = drop_all i (take n P) (omega arith) in
-      let t = ap (λ j. take j Q) e in
-      let b = h.before in
-      ap (λ r. r ++ c ∷ []) (sym t) ∙ ap (λ r. take i Q ++ c ∷ r) (sym d) ∙ b
+  -- the last of the places from a on comes to their front, and is written over
+  turned : (S ys : List T) (e : T) → 0 < length S → ys ≡ drop (length S - 1) S ++ take (length S - 1) S → set ys 0 e ≡ e ∷ take (length S - 1) S
+  turned S ys e some is =
+      let q = length S - 1 in
+      let last : drop q S ≡ get_or S q e ∷ [] = drop_more S q e (omega arith) ∙ ap (λ r. get_or S q e ∷ r) (drop_all (q + 1) S (omega arith)) in
+      ap (λ l. set l 0 e) (is ∙ ap (λ l. l ++ take q S) last)
 
   pub record Kept (all P Q : List T) (k r : ℕ) : Type 0 where
     pub held : take r Q ≡ take k all
     pub rest : drop r Q ≡ drop r P
 
-  -- there is room for one more
-  pub kept_room : (all P Q : List T) (n i : ℕ) (c : T) → n < length P → length Q ≡ length P → i ≡ n → length all ≡ n + 1 → Carried all P n i Q c → Kept all P (set Q n c) (length P) (n + 1)
-  kept_room all P Q n i c l long e many h =
-      let b = last_carried all P Q n i c (omega arith) e h in
-      let t = take_more_set Q n c (omega arith) in
-      let a : drop n Q ≡ drop n P = let x = h.after in cc in
+  -- the places from a up to m are turned by one, and e is written over the first of them
+  pub kept_turned : (all P ys : List T) (e : T) (a n m : ℕ) → a < m → a ≤ n → (m ≡ n + 1) ⊎ (m ≡ length P) → n ≤ length P → m ≤ n + 1 → m ≤ length P → length all ≡ n + 1 →
+      all ≡ take a (take n P) ++ e ∷ drop a (take n P) →
+      ys ≡ drop (length (mid_of a (m - a) P) - 1) (mid_of a (m - a) P) ++ take (length (mid_of a (m - a) P) - 1) (mid_of a (m - a) P) →
+      Kept all P (put_mid a (m - a) P (set ys 0 e)) (length P) m
+  kept_turned all P ys e a n m l k end long j few many splits is =
+      let S = mid_of a (m - a) P in
+      let left : length (drop a P) ≡ length P - a = length-drop a P in
+      let wide : length S ≡ m - a = length-take-le (m - a) (drop a P) (omega arith) in
+      let same : length S - 1 ≡ m - a - 1 = omega arith in
+      let written : set ys 0 e ≡ e ∷ take (m - a - 1) (drop a P) =
+      turned S ys e (omega arith) is ∙ ap (λ q. e ∷ take q S) same
+      ∙ ap (λ r. e ∷ r) (take-take (m - a - 1) (m - a) (drop a P) (omega arith)) in
+      let short : length (take (m - a - 1) (drop a P)) ≡ m - a - 1 = length-take-le (m - a - 1) (drop a P) (omega arith) in
+      let size : length (set ys 0 e) ≡ m - a = let w = ap length written in omega arith in
+      let there : n ≡ a + (n - a) = omega arith in
+      let whole : all ≡ take a P ++ e ∷ take (n - a) (drop a P) =
+      splits ∙ ap (λ r. r ++ e ∷ drop a (take n P)) (take-take a n P k)
+      ∙ ap (λ r. take a P ++ e ∷ r) (ap (λ i. drop a (take i P)) there ∙ drop-take a (n - a) P) in
+      let front : take m all ≡ take (length P) all = elim end [ inl p ↦ take_all m all (omega arith) ∙ sym (take_all (length P) all (omega arith)) | inr p ↦ ap (λ i. take i all) p ] in
       record {
-        held = t ∙ b ∙ sym (take_all (length P) all (omega arith));
-        rest = drop-set-lt (n + 1) Q n c (omega arith) ∙ sym (drop-drop 1 n Q) ∙ ap (drop 1) a ∙ drop-drop 1 n P;
-      }
-
-  -- there is none: what is carried falls out
-  pub kept_full : (all P Q : List T) (n i : ℕ) (c : T) → n ≡ length P → length Q ≡ length P → i ≡ n → Carried all P n i Q c → Kept all P Q (length P) n
-  kept_full all P Q n i c l long e h =
-      let b = last_carried all P Q n i c (omega arith) e h in
-      let k : length (take n Q) ≡ length P = length-take-le n Q (omega arith) ∙ l in
-      record {
-        held = sym (ap (take (length P)) (sym b) ∙ take_at (take n Q) (c ∷ []) (length P) k);
-        rest = let x = h.after in cc;
+        held = take-put_mid a (m - a) P (set ys 0 e) m (omega arith) (omega arith) ∙ ap (λ r. take a P ++ r) written ∙ sym (front_of a m n P e l k j few) ∙ ap (take m) (sym whole) ∙ front;
+        rest = drop-put_mid a (m - a) P (set ys 0 e) m (omega arith) (omega arith) size;
       }
 
 -- only the first k of a list decide where its first k stand after one more is put in

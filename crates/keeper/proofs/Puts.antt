@@ -4,7 +4,7 @@ use Rattle.std.proofs.lemmas.List.{length_push, take_all}
 use Rattle.std.proofs.lemmas.List.Sums.{fold_push}
 use Rattle.keeper.specs.Order.{Test, insert, ordered, first_of}
 use Rattle.keeper.specs.Keeping.{room, Put, Holds}
-use Rattle.keeper.specs.declared.Keeper.{Keeper}
+use Rattle.keeper.specs.declared.kept.Keeper.{Keeper}
 use Rattle.keeper.proofs.Inserts.{take-insert}
 
 module _ {T : Type 0} (o : Test T) where

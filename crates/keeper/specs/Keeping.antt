@@ -1,14 +1,11 @@
 -- What a keeper holds, and what it holds after one more was put.
-use Rattle.std.specs.Prelude.{◌≡◌, ℕ, ◌+◌, ◌≤◌, min, List, length, take, drop}
+use Rattle.std.specs.Prelude.{◌≡◌, ℕ, ◌+◌, min, List, length, take, drop}
 use Rattle.keeper.specs.Order.{Test, insert, first_of}
-use Rattle.keeper.specs.declared.Keeper.{Keeper}
+use Rattle.keeper.specs.declared.kept.Keeper.{Keeper}
 
 -- the number of its places
 abbrev pub room : {T : Type 0} → Keeper T → ℕ
 room k = length k.places.now
-
-abbrev pub Sound : {T : Type 0} → Keeper T → Type 0
-Sound k = k.filled ≤ room k
 
 abbrev pub held_by : {T : Type 0} → Keeper T → List T
 held_by k = take k.filled k.places.now

@@ -3,7 +3,7 @@ use Rattle.std.specs.Prelude.{◌≡◌, List, [], ◌∷◌, ◌++◌}
 use Rattle.keeper.specs.Order.{Test}
 use Rattle.keeper.specs.First.{FirstOf}
 use Rattle.keeper.specs.Keeping.{room, held_by, Put, Holds}
-use Rattle.keeper.specs.declared.Keeper.{Keeper}
+use Rattle.keeper.specs.declared.kept.Keeper.{Keeper}
 
 pub record KeeperLaws {T : Type 0} (before : Test T) : Type 0 where
   -- a new keeper holds the first of nothing

@@ -1,13 +1,18 @@
 // The keeper: of all the entries put to it, the first k in order, over a lent slice of k places.
 #![tactic(auto)]
 
-ghost use Rattle.std.specs.Prelude.{◌≡◌, ◌+◌, ◌≤◌, min, Bool, ◌∷◌, ◌++◌, length, take, drop};
+ghost use Rattle.std.specs.Prelude.{◌≡◌, ◌+◌, ◌≤◌, min, Bool, ◌∷◌, ◌++◌, length, take, drop, position};
 ghost use Rattle.keeper.specs.Order.{TotalOrder, insert, first_of};
 ghost use Rattle.keeper.specs.First.{FirstOf};
-ghost use Rattle.keeper.specs.Keeping.{Sound, Put, held_by};
+ghost use Rattle.keeper.specs.Keeping.{Put, held_by};
 ghost use Rattle.keeper.specs.Laws.{KeeperLaws};
 
-// An entry type with a total order: of two entries one comes first or they are equal in the order.
+mod kept;
+
+pub use kept::Keeper;
+
+// An entry type with a total order: of two entries one comes first or they are equal in the order. It is not the library's `Ord`, which asks
+// that only equal values tie: here a type may leave a figure out of its order.
 pub trait Ordered: Copy {
     // Whether the first of two comes before the second.
     ghost before: { Self → Self → Bool };
@@ -18,24 +23,20 @@ pub trait Ordered: Copy {
     ghost total: { TotalOrder before };
 }
 
-// Whether an entry goes ahead of one that is held: of two that are equal, the one that was put first stays ahead.
-fn goes_ahead<T: Ordered>(item: &T, held: &T) -> bool
-    ensures { result ≡ T.before item.now held.now }
+// The first of those that are held before which an entry comes, if there is one.
+fn next_after<T: Ordered>(held: &[T], item: &T) -> Option<usize>
+    ensures { result ≡ position (T.before item.now) held.now }
 {
-    item.comes_before(held)
+    held.iter().position(|other| item.comes_before(other))
 }
 
-// Where an entry goes among those that are held: after all that come before it or are equal.
+// Where an entry goes among those that are held: after all that come before it or are equal, so that of two that are equal the one that was
+// put first stays ahead.
 fn spot<T: Ordered>(held: &[T], item: &T) -> usize
     ensures within { result ≤ length held.now }
     ensures splits { insert T.before item.now held.now ≡ take result held.now ++ item.now ∷ drop result held.now }
 {
-    for (i, x) in held.iter().enumerate() {
-        if goes_ahead(item, x) {
-            return i;
-        }
-    }
-    held.len()
+    next_after(held, item).unwrap_or(held.len())
 }
 
 // Puts an entry into the filled places, in order, and answers how many are filled then. Where there is no room the last falls out.
@@ -45,26 +46,18 @@ fn keep<T: Ordered>(places: &mut [T], filled: usize, item: T) -> usize
     ensures held { take result places.new ≡ take (length places.old) (insert T.before item (take filled places.old)) }
     ensures rest { drop result places.new ≡ drop result places.old }
 {
-    let from = spot(&places[0..filled], &item);
-    let mut carried = item;
-    for i in from..filled {
-        let next = places[i];
-        places[i] = carried;
-        carried = next;
-    }
-    if filled < places.len() {
-        places[filled] = carried;
+    let from = spot(&places[..filled], &item);
+    let count = if filled < places.len() {
         filled + 1
     } else {
         filled
+    };
+    if from < count {
+        let later = &mut places[from..count];
+        later.rotate_right(1);
+        later[0] = item;
     }
-}
-
-// Lent places, and how many of them are filled, from the front on.
-#[derive(Drop)]
-pub struct Keeper<'a, T> {
-    places: &'a mut [T],
-    filled: usize,
+    count
 }
 
 impl<'a, T: Ordered> Keeper<'a, T> {
@@ -78,7 +71,6 @@ impl<'a, T: Ordered> Keeper<'a, T> {
 
     // Holds one entry more in its place, or lets the last go where there is no room.
     pub fn put(&mut self, item: T)
-        requires { Sound self.old }
         ensures put { Put T.before self.old item self.new }
         ensures lent { self.new.places.ghost_name ≡ self.old.places.ghost_name }
     {
@@ -88,7 +80,6 @@ impl<'a, T: Ordered> Keeper<'a, T> {
 
     // What is held, in order.
     pub fn held(&self) -> &[T]
-        requires { Sound self.now }
         ensures { result.now ≡ held_by self.now }
     {
         &self.places[0..self.filled]

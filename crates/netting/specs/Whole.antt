@@ -5,11 +5,15 @@ use Rattle.netting.specs.Group.{Group}
 abbrev pub wholes : Group ℤ
 wholes = record { none = pos 0; add = λ x y. x +ℤ y; neg = neg_ℤ; size = unsigned_abs }
 
--- each number by itself
-abbrev pub pairs : Group (ℤ × ℤ)
-pairs = record {
-  none = (pos 0, pos 0);
-  add = λ x y. (x.0 +ℤ y.0, x.1 +ℤ y.1);
-  neg = λ x. (neg_ℤ x.0, neg_ℤ x.1);
-  size = λ x. unsigned_abs x.0 + unsigned_abs x.1;
+-- two figures of one kind, each by itself
+abbrev pub pair_of : {F : Type 0} → Group F → Group (F × F)
+pair_of g = record {
+  none = (g.none, g.none);
+  add = λ x y. (g.add x.0 y.0, g.add x.1 y.1);
+  neg = λ x. (g.neg x.0, g.neg x.1);
+  size = λ x. g.size x.0 + g.size x.1;
 }
+
+-- two whole numbers
+abbrev pub pairs : Group (ℤ × ℤ)
+pairs = pair_of wholes

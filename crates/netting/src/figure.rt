@@ -5,12 +5,11 @@ ghost use Rattle.netting.specs.Group.{Group, Lawful, limit};
 pub trait Figure: Copy {
     const ZERO: Self;
 
+    // What the constant is, for clauses and proofs.
+    ghost ZERO: { Self };
+
     // What nothing, a sum and an opposite mean, and how large a figure is.
     ghost group: { Group Self };
-
-    // ZERO. A trait's constant carries no contract, so each impl answers it here, where one does.
-    fn nothing() -> Self
-        ensures { result ≡ group.none };
 
     fn plus(self, other: Self) -> Self
         requires { group.size self + group.size other ≤ limit }
@@ -19,6 +18,8 @@ pub trait Figure: Copy {
     fn opposite(self) -> Self
         requires { group.size self ≤ limit }
         ensures { result ≡ group.neg self };
+
+    ghost zero_is_nothing: { ZERO ≡ group.none };
 
     ghost lawful: { Lawful group };
 }

@@ -9,18 +9,19 @@ use crate::figure::Figure;
 fn owned<F: Figure>(net: F, member: usize, whose: usize) -> F
     ensures { result ≡ only F.group member net whose }
 {
-    if member == whose { net } else { F::nothing() }
+    if member == whose { net } else { F::ZERO }
 }
 
-// What a member gets, out of the net and the member of each account.
+// What a member gets, out of the net and the member of each account: two slices, since the nets are lent by whoever closes a session and the
+// members are the house's own.
 pub fn member_net<F: Figure>(nets: &[F], members: &[usize], whose: usize) -> F
     requires paired { length nets.now ≡ length members.now }
     requires light { weighed F.group nets.now ≤ limit }
     ensures { result ≡ member_net F.group members.now (λ a. slice_index_or nets.now a F.group.none) whose }
 {
-    let mut sum = F::nothing();
-    for a in 0..members.len() {
-        sum = sum.plus(owned(nets[a], members[a], whose));
+    let mut sum = F::ZERO;
+    for (net, member) in nets.iter().zip(members) {
+        sum = sum.plus(owned(*net, *member, whose));
     }
     sum
 }

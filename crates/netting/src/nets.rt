@@ -24,12 +24,12 @@ impl<F: Figure> Entry<F> {
         let got = if self.long == account {
             self.figure
         } else {
-            F::nothing()
+            F::ZERO
         };
         let given = if self.short == account {
             self.figure.opposite()
         } else {
-            F::nothing()
+            F::ZERO
         };
         got.plus(given)
     }
@@ -40,7 +40,7 @@ pub fn net_of<F: Figure>(entries: &[Entry<F>], account: usize) -> F
     requires { 2 * weight F.group entries.now ≤ limit }
     ensures { result ≡ net_of F.group entries.now account }
 {
-    let mut sum = F::nothing();
+    let mut sum = F::ZERO;
     for e in entries {
         sum = sum.plus(e.share(account));
     }
@@ -54,8 +54,8 @@ pub fn nets_into<F: Figure>(entries: &[Entry<F>], nets: &mut [F])
     ensures balanced { AllByRecursion (Within (length nets.old)) entries.now → together F.group nets.new ≡ F.group.none }
     ensures light { weighed F.group nets.new ≤ 2 * weight F.group entries.now }
 {
-    for a in 0..nets.len() {
-        nets[a] = net_of(entries, a);
+    for (account, net) in nets.iter_mut().enumerate() {
+        *net = net_of(entries, account);
     }
 }
 

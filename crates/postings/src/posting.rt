@@ -1,7 +1,7 @@
 // A posting's five centavo figures, how they net, and what they come to.
-ghost use Rattle.std.specs.Prelude.{◌≡◌, ◌≤◌};
+ghost use Rattle.std.specs.Prelude.{◌≡◌, ◌≤◌, pos, refl};
 ghost use Rattle.netting.specs.Group.{limit};
-ghost use Rattle.postings.specs.Postings.{postings, centavos};
+ghost use Rattle.postings.specs.Postings.{posted, postings, centavos};
 ghost use Rattle.postings.specs.Laws.{PostingLaws};
 ghost use Rattle.postings.specs.PostingsLemmas.{postings_lawful};
 
@@ -31,13 +31,13 @@ impl Figure for Posting {
         exchange: 0,
     };
 
+    ghost ZERO = { posted (pos 0) (pos 0) (pos 0) (pos 0) (pos 0) };
+
     ghost group = { postings };
 
-    ghost lawful = { postings_lawful };
+    ghost zero_is_nothing = { refl };
 
-    fn nothing() -> Posting {
-        Self::ZERO
-    }
+    ghost lawful = { postings_lawful };
 
     fn plus(self, other: Posting) -> Posting {
         Posting {

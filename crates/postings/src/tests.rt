@@ -55,8 +55,5 @@ fn a_posting_comes_to_its_five_figures(rt: HostRuntime) {
     };
     assert_eq!(rt; posting.net(), 46_281);
     assert_eq!(rt; posting.opposite().net(), -46_281);
-    assert_eq!(rt;
-        posting.plus(posting.opposite()),
-        <Posting as Figure>::nothing()
-    );
+    assert_eq!(rt; posting.plus(posting.opposite()), <Posting as Figure>::ZERO);
 }
