@@ -2,14 +2,14 @@
 use Rattle.std.proofs.Common.{◌≡◌, ℕ, zero, suc, ◌+◌, ◌<◌, ◌≤◌, List, [], ◌∷◌, length, get_or, drop, ℤ, pos, ◌+ℤ◌, nat_abs, ◌≤ℤ◌, Ok, Err, Result, sym, refl, ap, arith, w64, to_z, of_z}
 use lib.Signed.{le_z}
 use Rattle.refusal.proofs.Then.{then_ok, check_passed}
-use Rattle.refusal.specs.Checks.{check, ◌then◌}
+use Rattle.refusal.specs.Checks.{check, ◌then◌, ◌into◌, seen}
 use Rattle.refusal.specs.declared.Refusal.{Refusal}
 use Rattle.refusal.specs.declared.Refusal.TheVariants.{MarketFigure}
 use Rattle.std.proofs.lemmas.List.{at_drop_more, at_drop_all}
 use Rattle.std.proofs.lemmas.Int.{ints}
 use Rattle.coupons.specs.declared.overnight.Observation.{Observation}
 use Rattle.coupons.specs.Limits.{overnight_checks}
-use Rattle.coupons.specs.Overnight.{seen, ◌into◌, day_after, days_from, Modest, Good}
+use Rattle.coupons.specs.Overnight.{day_after, days_from, Modest, Good}
 use Rattle.coupons.proofs.Passed.{overnight_passed}
 
 pub ok_same : {X E : Type 0} {x y : X} → ◌≡◌ {A = Result X E} (Ok x) (Ok y) → x ≡ y
@@ -53,18 +53,6 @@ into_err s f y e = rw (← e)
 pub seen_ok : {X : Type 0} (i : ℕ) (r : Result X Refusal) (x : X) → Ok x ≡ seen i r → r ≡ Ok x
 seen_ok i (Ok y) x e = ap Ok (ok_same (sym e))
 seen_ok i (Err y) x e = let never : ◌≡◌ {A = ℕ} 0 1 = cc in absurd (omega arith)
-
--- the days stay few
-pub days_few : (days : ℤ) (o : Observation) (after : ℤ) → nat_abs days ≤ 366 → day_after days o ≡ Ok after → nat_abs after ≤ 366
-days_few days o after few e =
-    let p = day_passed days o after e in
-    let is = p.is in
-    let low = p.days_low in
-    let most = p.most in
-    omega (arith, ints)
-
-pub few_same : (x : ℤ) → nat_abs x ≤ 366 → to_z w64 (of_z w64 x) ≡ x
-few_same x h = omega (arith, ints)
 
 into_some : {X Y E : Type 0} (s : Result X E) (f : X → Result Y E) (y : Y) → s into f ≡ Ok y → (x : X) × (s ≡ Ok x) × (f x ≡ Ok y)
 into_some (Ok x) f y e = (x, refl, e)

@@ -1,8 +1,8 @@
 -- What it tells of the figures that they passed their checks.
-use Rattle.std.proofs.Common.{◌≡◌, ℕ, ◌≤◌, true, ℤ, pos, ◌-ℤ◌, nat_abs, ◌≤ℤ◌, is_ok, arith}
+use Rattle.std.proofs.Common.{◌≡◌, ℕ, ◌≤◌, true, ℤ, pos, ◌-ℤ◌, nat_abs, ◌≤ℤ◌, is_ok, Ok, Err, Result, arith}
 use Rattle.refusal.proofs.Then.{then_both, check_passed}
 use Rattle.refusal.proofs.Within.{within_low, within_high}
-use Rattle.refusal.specs.Checks.{within, check}
+use Rattle.refusal.specs.Checks.{within, check, ◌then◌}
 use Rattle.refusal.specs.declared.Refusal.TheVariants.{MarketFigure, ListLength}
 use Rattle.std.proofs.lemmas.Int.{ints}
 use Rattle.coupons.specs.Overnight.{range_checks}
@@ -41,3 +41,8 @@ range_passed len first count e =
     let n = check_passed _ _ p.0 in
     let f = check_passed _ _ p.1 in
     (within_low _ _ count n, within_high _ _ count n, within_low _ _ first f, within_high _ _ first f)
+
+-- a refusal of checks before an answer is one of the checks
+pub then_err : {X E : Type 0} (s : Result Unit E) (x : X) (e : E) → Err e ≡ s then Ok x → Err e ≡ s
+then_err (Ok u) x e h = let never : ◌≡◌ {A = ℕ} 0 1 = cc in absurd (omega arith)
+then_err (Err y) x e h = cc

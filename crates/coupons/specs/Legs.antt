@@ -1,9 +1,15 @@
 -- Legs by their letters, and the kinds of swaps that have them.
-use Rattle.std.specs.Prelude.{ℕ, Bool, true, false, cond, ℤ, Some, None, Option, ◌==◌}
+use Rattle.std.specs.Prelude.{ℕ, Bool, true, false, cond, ℤ, Some, None, Ok, Err, Option, Result, ◌==◌}
+use Rattle.refusal.specs.declared.Refusal.{Refusal}
+use Rattle.refusal.specs.declared.Refusal.TheVariants.{UnknownKind}
 use Rattle.coupons.specs.declared.legs.Kind.{Kind}
 use Rattle.coupons.specs.declared.legs.Kind.TheVariants.{Irs, Ois, CrossCurrency}
 use Rattle.coupons.specs.declared.legs.Leg.{Leg}
 use Rattle.coupons.specs.declared.legs.Leg.TheVariants.{Fixed, Variable, Dollars, Overnight}
+
+-- the kind of a letter: I, O or C
+abbrev pub kind_of : ℕ → Result Kind Refusal
+kind_of letter = cond (letter == 73) (Ok Irs) (cond (letter == 79) (Ok Ois) (cond (letter == 67) (Ok CrossCurrency) (Err UnknownKind)))
 
 -- the leg of a letter, F, V, U or O, and its two figures
 abbrev pub leg_of : ℕ → ℤ → ℤ → Option Leg

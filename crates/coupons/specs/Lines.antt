@@ -3,7 +3,7 @@ use Rattle.std.specs.Prelude.{List, length, ℤ, neg_ℤ, Some, None, Ok, Err, O
 use Rattle.refusal.specs.declared.Fault.{Fault}
 use Rattle.refusal.specs.declared.Refusal.{Refusal}
 use Rattle.refusal.specs.declared.Refusal.TheVariants as refusals
-use Rattle.refusal.specs.Checks.{check, raised, ◌then◌}
+use Rattle.refusal.specs.Checks.{check, raised, ◌then◌, ◌into◌}
 use Rattle.refusal.specs.Refusals.{bare}
 use Rattle.std.specs.List.{between}
 use Rattle.coupons.specs.declared.legs.Leg.{Leg}
@@ -13,7 +13,7 @@ use Rattle.coupons.specs.declared.overnight.Observation.{Observation}
 use Rattle.coupons.specs.Formulas.{simple, dollars}
 use Rattle.coupons.specs.Legs.{of_kind}
 use Rattle.coupons.specs.Limits.{rate_checks}
-use Rattle.coupons.specs.Overnight.{range_of, ◌into◌, overnight}
+use Rattle.coupons.specs.Overnight.{range_of, overnight}
 
 -- a fixed or variable coupon, a dollar coupon, whoever pays
 abbrev pub simple_coupon : ℤ → ℤ → ℤ → Result ℤ Refusal

@@ -3,8 +3,7 @@ use Rattle.std.specs.Prelude.{ℕ, ◌+◌, ◌*◌, ◌<◌, List, [], ◌∷�
 use Rattle.refusal.specs.declared.Fault.{Fault}
 use Rattle.refusal.specs.declared.Refusal.{Refusal}
 use Rattle.refusal.specs.declared.Refusal.TheVariants.{ListLength, MarketFigure, Factor}
-use Rattle.refusal.specs.Checks.{within, check, ◌then◌}
-use Rattle.refusal.specs.Refusals.{bare, on_observation}
+use Rattle.refusal.specs.Checks.{within, check, ◌then◌, ◌into◌, seen}
 use Rattle.coupons.specs.declared.overnight.Observation.{Observation}
 use Rattle.coupons.specs.Formulas.{simple}
 use Rattle.coupons.specs.Limits.{overnight_checks}
@@ -19,17 +18,6 @@ range_checks len first count =
 -- where they begin and end
 abbrev pub range_of : ℕ → ℤ → ℤ → Result (ℕ × ℕ) Refusal
 range_of len first count = range_checks len first count then Ok (unsigned_abs first, unsigned_abs first + unsigned_abs count)
-
--- an answer, with a refusal at the observation that met it
-abbrev pub seen : {X : Type 0} → ℕ → Result X Refusal → Result X Fault
-seen i (Ok x) = Ok x
-seen i (Err e) = Err (on_observation i (bare e))
-
--- an answer goes into what comes next, and a refusal stays
-infixr 10 ◌into◌
-abbrev pub ◌into◌ : {X Y E : Type 0} → Result X E → (X → Result Y E) → Result Y E
-Ok x into next = next x
-Err e into next = Err e
 
 -- the days with one observation more: its figures are within their limits, and the days at most 366
 abbrev pub day_after : ℤ → Observation → Result ℤ Refusal

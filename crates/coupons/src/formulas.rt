@@ -1,78 +1,53 @@
 // The formulas of coupons and of price alignment, on figures within their limits.
-ghost use Rattle.std.specs.Prelude.{◌≡◌, ◌<◌, ◌≤◌, ◌*ℤ◌, unsigned_abs};
+ghost use Rattle.std.specs.Prelude.{◌≡◌, ◌+◌, ◌*◌, ◌<◌, ◌≤◌, ◌*ℤ◌};
 ghost use Rattle.coupons.specs.Rounding.{rounded};
 ghost use Rattle.coupons.specs.Formulas.{simple, cents, dollars, alignment};
 
+use crate::amounts::{Accrual, Centavos, Nominal, Npv, Trm};
 use crate::rounding::rounded;
-
-// A product of two figures.
-pub(crate) fn times(a: i64, b: i64) -> i64
-    requires { unsigned_abs (a *ℤ b) ≤ 9000000000000000000 }
-    ensures { result ≡ a *ℤ b }
-{
-    a * b
-}
-
-// A product of three figures.
-fn product(a: i64, b: i64, c: i64) -> i64
-    requires two { unsigned_abs (a *ℤ b) ≤ 9000000000000000000 }
-    requires three { unsigned_abs (a *ℤ b *ℤ c) ≤ 9000000000000000000 }
-    ensures { result ≡ a *ℤ b *ℤ c }
-{
-    a * b * c
-}
+use bounded::Bounded;
 
 // A product of three figures by a divisor, rounded.
-fn ratio(a: i64, b: i64, c: i64, divisor: u32) -> i64
+pub(crate) fn ratio<const A: u64, const B: u64, const C: u64, const MOST: u64>(
+    a: Bounded<A>,
+    b: Bounded<B>,
+    c: Bounded<C>,
+    divisor: u32,
+) -> Bounded<MOST>
     requires divisor { 0 < divisor }
-    requires two { unsigned_abs (a *ℤ b) ≤ 9000000000000000000 }
-    requires three { unsigned_abs (a *ℤ b *ℤ c) ≤ 9000000000000000000 }
-    ensures { result ≡ rounded (a *ℤ b *ℤ c) divisor }
+    requires two { A * B ≤ 9000000000000000000 }
+    requires three { A * B * C ≤ 9000000000000000000 }
+    requires most { 2 * (A * B * C) + divisor < 2 * ((MOST + 1) * divisor) }
+    ensures { result ≡ rounded (a.entry *ℤ b.entry *ℤ c.entry) divisor }
 {
-    rounded(product(a, b, c), divisor)
+    Bounded::of(rounded(a.get() * b.get() * c.get(), divisor))
 }
 
-// The coupon of a fixed or a variable leg, and of a compounded rate, in centavos.
-pub(crate) fn simple(millions: i64, rate: i64, days: i64) -> i64
-    requires millions { unsigned_abs millions ≤ 100000 }
-    requires rate { unsigned_abs rate ≤ 18000000000 }
-    requires days { unsigned_abs days ≤ 366 }
-    ensures answer { result ≡ simple millions rate days }
-    ensures bound { unsigned_abs result ≤ 1000000000000000000 }
+// The coupon of a fixed or a variable leg, and of a compounded rate.
+pub(crate) fn simple(millions: Nominal, accrual: Accrual) -> Centavos
+    ensures { result ≡ simple millions accrual.rate accrual.days }
 {
-    ratio(millions, rate, days, 360)
+    ratio(millions, accrual.rate, accrual.days, 360)
 }
 
 // The coupon of a dollar leg in cents.
-pub(crate) fn cents(thousands: i64, rate: i64, days: i64) -> i64
-    requires thousands { unsigned_abs thousands ≤ 100000 }
-    requires rate { unsigned_abs rate ≤ 100000000 }
-    requires days { unsigned_abs days ≤ 366 }
-    ensures answer { result ≡ cents thousands rate days }
-    ensures bound { unsigned_abs result ≤ 10166666667 }
+fn cents(thousands: Nominal, accrual: Accrual) -> Bounded<2_000_000_000_000>
+    ensures { result ≡ cents thousands accrual.rate accrual.days }
 {
-    ratio(thousands, rate, days, 360_000)
+    ratio(thousands, accrual.rate, accrual.days, 360_000)
 }
 
-// The coupon of a dollar leg in centavos.
-pub(crate) fn dollars(thousands: i64, rate: i64, days: i64, trm: i64) -> i64
-    requires thousands { unsigned_abs thousands ≤ 100000 }
-    requires rate { unsigned_abs rate ≤ 100000000 }
-    requires days { unsigned_abs days ≤ 366 }
-    requires trm { unsigned_abs trm ≤ 2000000 }
-    ensures answer { result ≡ dollars thousands rate days trm }
-    ensures bound { unsigned_abs result ≤ 1000000000000000000 }
+// The coupon of a dollar leg.
+pub(crate) fn dollars(thousands: Nominal, accrual: Accrual, trm: Trm) -> Centavos
+    ensures { result ≡ dollars thousands accrual.rate accrual.days trm }
 {
-    rounded(cents(thousands, rate, days) * trm, 100)
+    ratio(cents(thousands, accrual), trm, Bounded::<1>::of(1), 100)
 }
 
 // The interest on a previous NPV, against the side that held it.
-pub(crate) fn alignment(npv: i64, overnight: i64, days: i64) -> i64
-    requires npv { unsigned_abs npv ≤ 10000000000000 }
-    requires overnight { unsigned_abs overnight ≤ 50000 }
-    requires days { unsigned_abs days ≤ 10 }
-    ensures answer { result ≡ alignment npv overnight days }
-    ensures bound { unsigned_abs result ≤ 1000000000000000000 }
+pub(crate) fn alignment(npv: Npv, overnight: Bounded<50_000>, days: Bounded<10>) -> Centavos
+    ensures { result ≡ alignment npv overnight days }
 {
-    -ratio(npv, overnight, days, 36_000_000)
+    let interest: Centavos = ratio(npv, overnight, days, 36_000_000);
+    -interest
 }

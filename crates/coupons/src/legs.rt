@@ -1,6 +1,8 @@
 // The kinds of swaps, and the legs that their coupon lines may be of.
 ghost use Rattle.std.specs.Prelude.{◌≡◌};
-ghost use Rattle.coupons.specs.Legs.{leg_of, of_kind};
+ghost use Rattle.coupons.specs.Legs.{kind_of, leg_of, of_kind};
+
+use refusal::Refusal;
 
 // An interest-rate swap, an overnight-index swap, a cross-currency swap.
 #[derive(Clone, Copy, Debug, PartialEq, Eq)]
@@ -8,6 +10,21 @@ pub enum Kind {
     Irs,
     Ois,
     CrossCurrency,
+}
+
+impl TryFrom<char> for Kind {
+    type Error = Refusal;
+
+    ghost try_from_gives = { λ letter answer. answer ≡ kind_of letter };
+
+    fn try_from(letter: char) -> Result<Kind, Refusal> {
+        match letter {
+            'I' => Ok(Kind::Irs),
+            'O' => Ok(Kind::Ois),
+            'C' => Ok(Kind::CrossCurrency),
+            _ => Err(Refusal::UnknownKind),
+        }
+    }
 }
 
 // A leg and its own figures: a rate in points with spread and its days, or a range of observations.

@@ -1,13 +1,16 @@
 // Coupons and price alignment: the arithmetic leaf of the engine.
 #![tactic(auto)]
 
-pub mod exports;
+pub mod amounts;
+mod factor;
 pub mod figures;
 mod formulas;
 pub mod legs;
-mod limits;
+pub mod limits;
 pub mod lines;
 pub mod overnight;
+pub mod plain;
 mod rounding;
 #[cfg(test)]
 mod tests;
+mod window;

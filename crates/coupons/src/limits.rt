@@ -1,68 +1,65 @@
-// The limits of the figures.
-ghost use Rattle.std.specs.Prelude.{◌≡◌};
-ghost use Rattle.coupons.specs.Limits.{nominal_check, rate_checks, trm_check, npv_check, overnight_checks, simple_checks, dollar_checks, alignment_checks};
+// The limits of the figures: what passes has a type of its own.
+ghost use Rattle.std.specs.Prelude.{◌≡◌, ◌≤◌, Ok, unsigned_abs};
+ghost use Rattle.refusal.specs.Checks.{within, check, ◌then◌};
+ghost use Rattle.coupons.specs.Limits.{nominal_check, rate_checks, trm_check, npv_check, overnight_checks};
 
+use crate::amounts::{Accrual, Nominal, Npv, Trm};
+use bounded::Bounded;
 use refusal::{Refusal, demand, inside};
 
-pub(crate) fn check_nominal(nominal: i64) -> Result<(), Refusal>
-    ensures { result ≡ nominal_check nominal }
+// A figure from `low` to `high`, or its refusal.
+fn limited<const LIMIT: u64>(
+    low: i64,
+    high: i64,
+    figure: i64,
+    refusal: Refusal,
+) -> Result<Bounded<LIMIT>, Refusal>
+    requires low { unsigned_abs low ≤ LIMIT }
+    requires high { unsigned_abs high ≤ LIMIT }
+    ensures { result ≡ check (within low high figure) refusal then Ok figure }
 {
-    demand(inside(1, 100_000, nominal), Refusal::Nominal)
+    demand(inside(low, high, figure), refusal)?;
+    Ok(Bounded::of(figure))
 }
 
-pub(crate) fn check_rate(rate: i64, days: i64) -> Result<(), Refusal>
-    ensures { result ≡ rate_checks rate days }
+// A nominal of a swap.
+pub fn nominal(figure: i64) -> Result<Nominal, Refusal>
+    ensures { result ≡ nominal_check figure then Ok figure }
 {
-    demand(
-        inside(-10_000_000, 100_000_000, rate),
-        Refusal::MarketFigure,
-    )?;
-    demand(inside(1, 366, days), Refusal::MarketFigure)
+    limited(1, 100_000, figure, Refusal::Nominal)
 }
 
-pub(crate) fn check_trm(trm: i64) -> Result<(), Refusal>
-    ensures { result ≡ trm_check trm }
+pub fn trm(figure: i64) -> Result<Trm, Refusal>
+    ensures { result ≡ trm_check figure then Ok figure }
 {
-    demand(inside(1, 2_000_000, trm), Refusal::MarketFigure)
+    limited(1, 2_000_000, figure, Refusal::MarketFigure)
 }
 
-pub(crate) fn check_npv(npv: i64) -> Result<(), Refusal>
-    ensures { result ≡ npv_check npv }
+pub fn npv(figure: i64) -> Result<Npv, Refusal>
+    ensures { result ≡ npv_check figure then Ok figure }
 {
-    demand(
-        inside(-10_000_000_000_000, 10_000_000_000_000, npv),
+    limited(
+        -10_000_000_000_000,
+        10_000_000_000_000,
+        figure,
         Refusal::Amount,
     )
 }
 
-pub(crate) fn check_overnight(rate: i64, days: i64) -> Result<(), Refusal>
-    ensures { result ≡ overnight_checks rate days }
+// A rate with spread in points, and its days.
+pub(crate) fn accrual(rate: i64, days: i64) -> Result<Accrual, Refusal>
+    ensures { result ≡ rate_checks rate days then Ok (record { rate = rate; days = days }) }
 {
-    demand(inside(0, 50_000, rate), Refusal::MarketFigure)?;
-    demand(inside(1, 10, days), Refusal::MarketFigure)
+    let rate = limited(-10_000_000, 100_000_000, rate, Refusal::MarketFigure)?;
+    let days = limited(1, 366, days, Refusal::MarketFigure)?;
+    Ok(Accrual { rate, days })
 }
 
-// The figures of a fixed or variable coupon.
-pub(crate) fn check_simple(millions: i64, rate: i64, days: i64) -> Result<(), Refusal>
-    ensures { result ≡ simple_checks millions rate days }
+// An overnight rate in mills, and its days.
+pub(crate) fn overnight(rate: i64, days: i64) -> Result<(Bounded<50_000>, Bounded<10>), Refusal>
+    ensures { result ≡ overnight_checks rate days then Ok (rate, days) }
 {
-    check_nominal(millions)?;
-    check_rate(rate, days)
-}
-
-// The figures of a dollar coupon.
-pub(crate) fn check_dollars(thousands: i64, rate: i64, days: i64, trm: i64) -> Result<(), Refusal>
-    ensures { result ≡ dollar_checks thousands rate days trm }
-{
-    check_nominal(thousands)?;
-    check_trm(trm)?;
-    check_rate(rate, days)
-}
-
-// The figures of a price alignment.
-pub(crate) fn check_alignment(npv: i64, overnight: i64, days: i64) -> Result<(), Refusal>
-    ensures { result ≡ alignment_checks npv overnight days }
-{
-    check_npv(npv)?;
-    check_overnight(overnight, days)
+    let rate = limited(0, 50_000, rate, Refusal::MarketFigure)?;
+    let days = limited(1, 10, days, Refusal::MarketFigure)?;
+    Ok((rate, days))
 }
