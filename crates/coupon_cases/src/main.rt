@@ -4,11 +4,12 @@
 #![tactic(auto)]
 
 use anyhow::{Context, anyhow};
-use coupons::exports::{runtsigo_alignment, runtsigo_dollars, runtsigo_fixed, runtsigo_variable};
+use coupons::amounts::{Centavos, Nominal, Trm};
 use coupons::legs::{CouponLine, Kind};
 use coupons::lines::{Terms, coupon};
 use coupons::overnight::Observation;
-use std::alloc::Global;
+use coupons::plain::{alignment, dollars, simple};
+use std::alloc::{AllocError, Global};
 use std::io::{BufRead, BufReader};
 
 // A word's number.
@@ -17,12 +18,9 @@ fn number(word: Option<&str>) -> anyhow::Result<i64> {
 }
 
 fn kind_of(word: Option<&str>) -> anyhow::Result<Kind> {
-    match word {
-        Some("I") => Ok(Kind::Irs),
-        Some("O") => Ok(Kind::Ois),
-        Some("C") => Ok(Kind::CrossCurrency),
-        _ => Err(anyhow!("no such kind")),
-    }
+    word.and_then(|word| word.parse::<char>().ok())
+        .and_then(|letter| Kind::try_from(letter).ok())
+        .context("no such kind")
 }
 
 // A rate and its days, as RATE:DAYS.
@@ -34,25 +32,23 @@ fn observation(word: &str) -> anyhow::Result<Observation> {
     })
 }
 
-// The coupon of a line, or its fault; nominals and TRM as the engine has checked them before.
+// The coupon of a line, or its fault.
 fn told(
     heap: Global,
     terms: &Terms,
-    trm: i64,
+    trm: Trm,
     line: &CouponLine,
     observations: &[Observation],
-) -> anyhow::Result<String> {
-    let millions = terms.millions.unsigned_abs();
-    let thousands = terms.thousands.unsigned_abs();
-    if millions > 100_000 || thousands > 100_000 || trm.unsigned_abs() > 2_000_000 {
-        return Err(anyhow!("a figure is outside its limits"));
-    }
+) -> Result<String, AllocError> {
     match coupon(terms, trm, line, observations) {
-        Ok(centavos) => Ok(format!(in heap; "coupon={centavos}\n")?),
+        Ok(centavos) => {
+            let centavos = centavos.get();
+            format!(in heap; "coupon={centavos}\n")
+        }
         Err(fault) => {
             let number = fault.refusal().number();
             let observation = fault.observation();
-            Ok(format!(in heap; "fault={number} observation={observation}\n")?)
+            format!(in heap; "fault={number} observation={observation}\n")
         }
     }
 }
@@ -60,11 +56,8 @@ fn told(
 fn line(heap: Global, figures: &str) -> anyhow::Result<String> {
     let mut words = figures.split(' ');
     let kind = kind_of(words.next())?;
-    let terms = Terms {
-        kind,
-        millions: number(words.next())?,
-        thousands: number(words.next())?,
-    };
+    let millions = number(words.next())?;
+    let thousands = number(words.next())?;
     let trm = number(words.next())?;
     let letter = words
         .next()
@@ -82,21 +75,28 @@ fn line(heap: Global, figures: &str) -> anyhow::Result<String> {
     for word in words {
         observations.push(observation(word)?)?;
     }
-    told(heap, &terms, trm, &line, &observations)
+    let terms = Terms {
+        kind,
+        millions: Nominal::new(millions).context("a figure is outside its limits")?,
+        thousands: Nominal::new(thousands).context("a figure is outside its limits")?,
+    };
+    let trm = Trm::new(trm).context("a figure is outside its limits")?;
+    Ok(told(heap, &terms, trm, &line, &observations)?)
 }
 
+// What a C host is answered: -2^63 is a refusal.
 fn formula(heap: Global, name: &str, figures: &str) -> anyhow::Result<String> {
     let mut words = figures.split(' ');
     let a = number(words.next())?;
     let b = number(words.next())?;
     let c = number(words.next())?;
     let centavos = match name {
-        "fixed" => runtsigo_fixed(a, b, c),
-        "variable" => runtsigo_variable(a, b, c),
-        "dollars" => runtsigo_dollars(a, b, c, number(words.next())?),
-        "alignment" => runtsigo_alignment(a, b, c),
+        "fixed" | "variable" => simple(a, b, c),
+        "dollars" => dollars(a, b, c, number(words.next())?),
+        "alignment" => alignment(a, b, c),
         _ => return Err(anyhow!("no such formula")),
     };
+    let centavos = centavos.map_or(i64::MIN, Centavos::get);
     Ok(format!(in heap; "{centavos}\n")?)
 }
 

@@ -7,8 +7,8 @@ pub type Nominal = Bounded<100_000>;
 // Centavos for a dollar.
 pub type Trm = Bounded<2_000_000>;
 
-// A swap's value for its long side, in centavos.
-pub type Npv = Bounded<10_000_000_000_000>;
+// An NPV or a payment, in centavos.
+pub type Amount = Bounded<10_000_000_000_000>;
 
 // A coupon or a price alignment.
 pub type Centavos = Bounded<1_000_000_000_000_000_000>;

@@ -3,7 +3,7 @@ ghost use Rattle.std.specs.Prelude.{◌≡◌, ◌+◌, ◌*◌, ◌<◌, ◌≤
 ghost use Rattle.coupons.specs.Rounding.{rounded};
 ghost use Rattle.coupons.specs.Formulas.{simple, cents, dollars, alignment};
 
-use crate::amounts::{Accrual, Centavos, Nominal, Npv, Trm};
+use crate::amounts::{Accrual, Amount, Centavos, Nominal, Trm};
 use crate::rounding::rounded;
 use bounded::Bounded;
 
@@ -45,7 +45,7 @@ pub(crate) fn dollars(thousands: Nominal, accrual: Accrual, trm: Trm) -> Centavo
 }
 
 // The interest on a previous NPV, against the side that held it.
-pub(crate) fn alignment(npv: Npv, overnight: Bounded<50_000>, days: Bounded<10>) -> Centavos
+pub(crate) fn alignment(npv: Amount, overnight: Bounded<50_000>, days: Bounded<10>) -> Centavos
     ensures { result ≡ alignment npv overnight days }
 {
     let interest: Centavos = ratio(npv, overnight, days, 36_000_000);

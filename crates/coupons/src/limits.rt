@@ -3,12 +3,12 @@ ghost use Rattle.std.specs.Prelude.{◌≡◌, ◌≤◌, Ok, unsigned_abs};
 ghost use Rattle.refusal.specs.Checks.{within, check, ◌then◌};
 ghost use Rattle.coupons.specs.Limits.{nominal_check, rate_checks, trm_check, npv_check, overnight_checks};
 
-use crate::amounts::{Accrual, Nominal, Npv, Trm};
+use crate::amounts::{Accrual, Amount, Nominal, Trm};
 use bounded::Bounded;
 use refusal::{Refusal, demand, inside};
 
 // A figure from `low` to `high`, or its refusal.
-fn limited<const LIMIT: u64>(
+pub fn limited<const LIMIT: u64>(
     low: i64,
     high: i64,
     figure: i64,
@@ -35,7 +35,8 @@ pub fn trm(figure: i64) -> Result<Trm, Refusal>
     limited(1, 2_000_000, figure, Refusal::MarketFigure)
 }
 
-pub fn npv(figure: i64) -> Result<Npv, Refusal>
+// An NPV or a payment.
+pub fn amount(figure: i64) -> Result<Amount, Refusal>
     ensures { result ≡ npv_check figure then Ok figure }
 {
     limited(

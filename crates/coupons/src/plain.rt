@@ -30,7 +30,7 @@ pub fn dollars(thousands: i64, rate: i64, days: i64, trm: i64) -> Result<Centavo
 pub fn alignment(npv: i64, overnight: i64, days: i64) -> Result<Centavos, Refusal>
     ensures { result ≡ alignment_checks npv overnight days then Ok (alignment npv overnight days) }
 {
-    let npv = limits::npv(npv)?;
+    let npv = limits::amount(npv)?;
     let (overnight, days) = limits::overnight(overnight, days)?;
     Ok(formulas::alignment(npv, overnight, days))
 }

@@ -9,7 +9,8 @@ use Rattle.coupons.specs.declared.legs.Kind.{Kind}
 use Rattle.coupons.specs.declared.legs.Kind.TheVariants.{Irs, Ois, CrossCurrency}
 use Rattle.coupons.specs.declared.lines.Terms.{Terms}
 use Rattle.swaps.specs.Swaps.{Modest, dollars, nominal}
-use Rattle.swaps.specs.Limits.{amount_of, kind_of, dollars_check, terms_of}
+use Rattle.coupons.specs.Legs.{kind_of}
+use Rattle.swaps.specs.Limits.{amount_of, dollars_check, terms_of}
 
 pub modest_within : (x : ℤ) → within (neg_ℤ (pos 10000000000000)) (pos 10000000000000) x ≡ true → Modest x
 modest_within x e =

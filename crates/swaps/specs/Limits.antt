@@ -1,19 +1,16 @@
 -- The limits of a swap's figures.
-use Rattle.std.specs.Prelude.{ℕ, cond, ℤ, pos, neg_ℤ, Ok, Err, Result, ◌==◌}
+use Rattle.std.specs.Prelude.{ℕ, ℤ, pos, neg_ℤ, Ok, Result}
 use Rattle.refusal.specs.declared.Refusal.{Refusal}
-use Rattle.refusal.specs.declared.Refusal.TheVariants.{UnknownKind, Nominal, Amount}
+use Rattle.refusal.specs.declared.Refusal.TheVariants.{Nominal, Amount}
 use Rattle.refusal.specs.Checks.{within, check, ◌then◌, ◌into◌}
 use Rattle.coupons.specs.declared.legs.Kind.{Kind}
 use Rattle.coupons.specs.declared.legs.Kind.TheVariants.{Irs, Ois, CrossCurrency}
 use Rattle.coupons.specs.declared.lines.Terms.{Terms}
+use Rattle.coupons.specs.Legs.{kind_of}
 
 -- an NPV or a payment
 abbrev pub amount_of : ℤ → Result ℤ Refusal
 amount_of x = check (within (neg_ℤ (pos 10000000000000)) (pos 10000000000000) x) Amount then Ok x
-
--- the kind of a letter: I, O or C
-abbrev pub kind_of : ℕ → Result Kind Refusal
-kind_of letter = cond (letter == 73) (Ok Irs) (cond (letter == 79) (Ok Ois) (cond (letter == 67) (Ok CrossCurrency) (Err UnknownKind)))
 
 -- dollars are for cross-currency swaps alone
 abbrev pub dollars_check : Kind → ℤ → Result Unit Refusal

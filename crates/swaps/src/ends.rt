@@ -39,11 +39,7 @@ impl Ordered for End {
     ghost total = { sooner-total };
 
     fn comes_before(&self, other: &End) -> bool {
-        if self.session == other.session {
-            self.number < other.number
-        } else {
-            self.session < other.session
-        }
+        (self.session, self.number) < (other.session, other.number)
     }
 }
 
@@ -52,17 +48,14 @@ impl Swap {
     pub fn end(&self) -> End
         ensures { result ≡ end_of self.now }
     {
-        match self.state {
-            State::Agreed { session, .. } => End {
-                session,
-                number: self.number,
-                mark: Mark::Agreed,
-            },
-            _ => End {
-                session: self.maturity,
-                number: self.number,
-                mark: Mark::Maturity,
-            },
+        let (session, mark) = match self.state {
+            State::Agreed { session, .. } => (session, Mark::Agreed),
+            _ => (self.maturity, Mark::Maturity),
+        };
+        End {
+            session,
+            number: self.number,
+            mark,
         }
     }
 }
