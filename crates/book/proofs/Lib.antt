@@ -5,3 +5,4 @@ pub mod Accepted
 pub mod Events
 pub mod Lawful
 pub mod Restored
+pub mod Places

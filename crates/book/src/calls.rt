@@ -7,9 +7,10 @@ ghost use Rattle.book.specs.Calls.{parties, figures_of, offered, answered, after
 
 use crate::book::Book;
 use crate::table::place;
+use coupons::limits::amount;
 use coupons::lines::Terms;
 use refusal::{Fault, Refusal, counted, demand};
-use swaps::limits::{amount, terms_of};
+use swaps::limits::terms_of;
 use swaps::state::{Event, State};
 use swaps::swap::Swap;
 
@@ -59,7 +60,7 @@ impl Offer {
         ensures { result ≡ figures_of self.now current }
     {
         let terms = terms_of(self.kind, self.millions, self.thousands)?;
-        let npv = amount(self.npv)?;
+        let npv = amount(self.npv)?.get();
         let maturity = counted(current, 100_001, self.maturity, Refusal::Session)?;
         Ok((terms, npv, maturity))
     }
@@ -92,18 +93,19 @@ impl Book {
         ensures after { reading self.new ≡ after (offered (reading self.old) offer.now) (reading self.old) (taken (reading self.old)) }
     {
         let swap = self.offered(offer)?;
-        self.given = swap.number;
+        let number = swap.number;
+        self.given = number;
         self.table.swaps.push_reserved(swap);
-        Ok(swap.number)
+        Ok(number)
     }
 
-    // The place of the live swap of that number.
+    // The place of the live swap of that number: their numbers rise.
     pub(crate) fn found(&self, number: i64) -> Result<usize, Refusal>
         ensures answer { result ≡ found (reading self.now) number }
         ensures within { IfOk result (λ i. i < length (reading self.now).swaps) }
     {
         let number = counted(1, 1_000_001, number, Refusal::NoSuchSwap)?;
-        place(&self.table.swaps, number)
+        place(&self.table.swaps, number).ok_or(Refusal::NoSuchSwap)
     }
 
     // What is asked of a swap, checked in the order of the refusals.
@@ -116,7 +118,7 @@ impl Book {
             request.account,
             Refusal::OutOfRange,
         )?;
-        let payment = amount(request.payment)?;
+        let payment = amount(request.payment)?.get();
         let session = counted(
             self.closed + 3,
             swap.maturity,
@@ -159,7 +161,8 @@ impl Book {
         Ok((i, event))
     }
 
-    // The place of the swap that is answered about, and what is answered.
+    // The place of the swap that is answered about, and what is answered: the same two steps as for a request. A trait over requests and
+    // replies would be longer than the two functions that it joins.
     fn answering(&self, reply: &Reply) -> Result<(usize, Event), Refusal>
         ensures { result ≡ answering (reading self.now) reply.now }
     {

@@ -17,6 +17,7 @@ impl Book {
         ensures rest { drop result places.new ≡ drop result places.old }
         ensures first { FirstOf sooner (length places.old) (map end_of (reading self.now).swaps) (take result places.new) }
     {
+        // `keeper::first_of` has this loop for entries that stand in a list: a rule passed to it would need a clause longer than the loop.
         let mut keeper = Keeper::new(places);
         for swap in self.table.swaps.iter() {
             keeper.put(swap.end());

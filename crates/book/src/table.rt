@@ -1,8 +1,8 @@
 // The table of live swaps, by rising number.
-ghost use Rattle.std.specs.Prelude.{◌≡◌, ◌<◌, ◌≤◌, [], length, IfOk, vec_len, vec_capacity, slice_index_or};
+ghost use Rattle.std.specs.Prelude.{◌≡◌, ◌<◌, ◌≤◌, [], ◌==◌, position, IfOk, vec_len, vec_capacity, slice_index_or};
 ghost use Rattle.swaps.specs.Swaps.{blank};
 ghost use Rattle.swaps.specs.States.{after_event};
-ghost use Rattle.book.specs.Calls.{place_from, answered, stated};
+ghost use Rattle.book.specs.Calls.{answered, stated};
 
 use refusal::Refusal;
 use std::alloc::{AllocError, Global};
@@ -14,17 +14,11 @@ pub struct Table {
     pub(crate) swaps: Vec<Swap>,
 }
 
-// The place of the swap of that number.
-pub(crate) fn place(swaps: &[Swap], number: u32) -> Result<usize, Refusal>
-    ensures answer { result ≡ place_from 0 number swaps.now }
-    ensures within { IfOk result (λ i. i < length swaps.now) }
+// The place of the swap of that number, if there is one.
+pub(crate) fn place(swaps: &[Swap], number: u32) -> Option<usize>
+    ensures { result ≡ position (λ s. s.number == number) swaps.now }
 {
-    for (i, swap) in swaps.iter().enumerate() {
-        if swap.number == number {
-            return Ok(i);
-        }
-    }
-    Err(Refusal::NoSuchSwap)
+    swaps.iter().position(|swap| swap.number == number)
 }
 
 impl Table {
