@@ -5,7 +5,7 @@ use Rattle.std.proofs.lemmas.List.{set_past, get_or-set_same, get_or-set_other, 
 apart : (k m : ℕ) → (k ≡ m) ⊎ (k ≢ m)
 apart k m = grind arith
 
-under : (k m : ℕ) → (k < m) ⊎ (m ≤ k)
+pub under : (k m : ℕ) → (k < m) ⊎ (m ≤ k)
 under k m = grind arith
 
 -- what holds of each member's place holds after a write of what it holds of

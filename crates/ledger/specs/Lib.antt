@@ -1,6 +1,7 @@
 pub mod Funds
 pub mod Deposits
 pub mod Openings
+pub mod Drawing
 pub mod Lines
 pub mod LineFunds
 pub mod Transfers

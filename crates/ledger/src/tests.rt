@@ -43,13 +43,13 @@ fn two_books_decide_alike(rt: HostRuntime) -> Result<(), Fail> {
 #[test]
 fn a_run_writes_what_was_decided(rt: HostRuntime) -> Result<(), Fail> {
     let mut book = LineBook::open(&[100, 300], 0)?;
-    let mut answers = [Decision::Rejected; 6];
+    let mut answers = [Err(Rejected); 6];
     run(&mut book, &TRANSFERS, &mut answers)?;
     let [first, second, .., last] = answers;
-    assert_eq!(rt; first, Decision::Rejected);
-    assert_eq!(rt; second, Decision::Approved);
-    assert_eq!(rt; last, Decision::Rejected);
-    assert!(rt; run(&mut book, &TRANSFERS, &mut [Decision::Approved; 4]).is_err());
+    assert_eq!(rt; first, Err(Rejected));
+    assert_eq!(rt; second, Ok(()));
+    assert_eq!(rt; last, Err(Rejected));
+    assert!(rt; run(&mut book, &TRANSFERS, &mut [Ok(()); 4]).is_err());
     assert_eq!(rt; book.member_fund(31), AMOUNT_LIMIT);
     Ok(())
 }
@@ -57,9 +57,9 @@ fn a_run_writes_what_was_decided(rt: HostRuntime) -> Result<(), Fail> {
 #[test]
 fn a_ceiling_may_be_reached(rt: HostRuntime) -> Result<(), Fail> {
     let mut book = DepositBook::open(&[5, 4_000_000_000_000_000_000], 3_999_999_999_999_999_998)?;
-    assert_eq!(rt; book.charge(0, 3), Decision::Rejected);
-    assert_eq!(rt; book.charge(0, 2), Decision::Approved);
-    assert_eq!(rt; book.top_up(1, 1), Decision::Rejected);
+    assert_eq!(rt; book.charge(0, 3), Err(Rejected));
+    assert_eq!(rt; book.charge(0, 2), Ok(()));
+    assert_eq!(rt; book.top_up(1, 1), Err(Rejected));
     assert_eq!(rt; book.house_fund(), FUND_LIMIT);
     assert_eq!(rt; book.member_fund(32), 0);
     Ok(())

@@ -8,7 +8,7 @@ use anyhow::{Context, anyhow};
 use ledger::deposit::DepositBook;
 use ledger::lines::LineBook;
 use ledger::transfers::{Transfer, make};
-use ledger::{Decision, Ledger, MEMBERS};
+use ledger::{Ledger, MEMBERS, Rejected};
 use refusal::Fault;
 use std::alloc::{AllocError, Global};
 use std::io::{BufRead, BufReader};
@@ -36,8 +36,8 @@ fn decided<L: Ledger>(
     amount: u64,
 ) -> anyhow::Result<String> {
     let decision = match make(ledger, transfer_of(name, member, amount)?) {
-        Decision::Approved => "approved",
-        Decision::Rejected => "rejected",
+        Ok(()) => "approved",
+        Err(Rejected) => "rejected",
     };
     let fund = ledger.member_fund(member);
     let house = ledger.house_fund();

@@ -7,5 +7,5 @@ abbrev pub invariant-loop-i : goal.invariant-loop-i
 invariant-loop-i l =
     (l.i ≤ 32)
     × (fund_checks (l.i + 1) (drop l.i l.figures) ≡ fund_checks 1 l.figures)
-    × (l.funds ≡ map nat_abs (take l.i l.figures) ++ replicate (32 - l.i) 0)
-    × ((k : ℕ) → k < 32 → get_or l.funds k 0 ≤ fund_limit)
+    × (l.each ≡ map nat_abs (take l.i l.figures) ++ replicate (32 - l.i) 0)
+    × ((k : ℕ) → k < 32 → get_or l.each k 0 ≤ fund_limit)
