@@ -13,9 +13,6 @@ pub record Funds : Type 0 where
   pub members : List ℕ
   pub house : ℕ
 
-abbrev pub funds_with : List ℕ → ℕ → Funds
-funds_with members house = record { members = members; house = house }
-
 -- a member's fund, and 0 past the last member
 abbrev pub fund : Funds → ℕ → ℕ
 fund f m = slice_index f.members m

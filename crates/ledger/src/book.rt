@@ -1,7 +1,6 @@
 // A book: the members' accounts and the house fund. What it decides is written once, whatever keeps the accounts.
 ghost use Rattle.std.specs.Prelude.{◌≡◌, ◌≤◌, IfOk};
-ghost use Rattle.ledger.specs.Funds.{provided, approved, good_amount, covers, room, funds_with, fund_limit};
-ghost use Rattle.ledger.specs.Openings.{opened, meaning};
+ghost use Rattle.ledger.specs.Funds.{provided, approved, good_amount, covers, room, fund_limit};
 
 use crate::accounts::Accounts;
 use crate::opening::opening;
@@ -27,7 +26,7 @@ fn provided(ok: bool) -> Result<(), Rejected>
 fn decide_inflow(amount: u64, to: u64) -> Result<(), Rejected>
     ensures { result ≡ provided (good_amount amount) (provided (room to amount) approved) }
 {
-    provided(1 <= amount && amount <= AMOUNT_LIMIT)?;
+    provided((1..=AMOUNT_LIMIT).contains(&amount))?;
     provided(to <= FUND_LIMIT - amount)
 }
 
@@ -40,9 +39,12 @@ fn decide_move(amount: u64, from: u64, to: u64) -> Result<(), Rejected>
 }
 
 impl<A: Accounts> Book<A> {
+    ghost use Rattle.ledger.specs.Books.{book_funds};
+    ghost use Rattle.ledger.specs.Openings.{opened, meaning};
+
     // A book with these funds of the first members, 0 for the others, and this house fund.
     pub fn open(funds: &[i64], house: i64) -> Result<Book<A>, Fault>
-        ensures funds { meaning (λ b. funds_with (A.holds b.accounts) b.house) result ≡ opened funds.now house }
+        ensures funds { meaning (book_funds A.holds) result ≡ opened funds.now house }
         ensures fresh { IfOk result (λ b. A.Fresh b.accounts) }
     {
         let (balances, house) = opening(funds, house)?;
@@ -54,7 +56,9 @@ impl<A: Accounts> Book<A> {
 }
 
 impl<A: Accounts> Ledger for Book<A> {
-    ghost means = { λ b. funds_with (A.holds b.accounts) b.house };
+    ghost use Rattle.ledger.specs.Books.{book_funds};
+
+    ghost means = { book_funds A.holds };
 
     ghost whole = { λ b. (A.wide b.accounts, A.limited b.accounts, b.ceiling) };
 

@@ -31,24 +31,20 @@ impl Line {
     }
 
     // The line with an amount drawn on it.
-    pub(crate) fn draw(self, amount: u64) -> Line
+    pub(crate) fn draw(mut self, amount: u64) -> Line
         requires covered { amount ≤ left self }
         ensures { DrawnBy self (pos amount) result }
     {
-        Line {
-            limit: self.limit,
-            drawn: self.drawn + amount as i64,
-        }
+        self.drawn += amount as i64;
+        self
     }
 
     // The line with an amount paid back.
-    pub(crate) fn repay(self, amount: u64) -> Line
+    pub(crate) fn repay(mut self, amount: u64) -> Line
         requires room { left self + amount ≤ fund_limit }
         ensures { DrawnBy self (neg_ℤ (pos amount)) result }
     {
-        Line {
-            limit: self.limit,
-            drawn: self.drawn - amount as i64,
-        }
+        self.drawn -= amount as i64;
+        self
     }
 }

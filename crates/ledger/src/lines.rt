@@ -1,10 +1,10 @@
 // The line book: its accounts are a line of each member, and what is drawn on it.
 ghost use Rattle.std.specs.Prelude.{◌≡◌, length};
 
+use crate::MEMBERS;
 use crate::accounts::{Accounts, Balances};
 use crate::book::Book;
 use crate::line::Line;
-use crate::MEMBERS;
 use members::Member;
 
 pub type LineBook = Book<Lines>;
@@ -33,7 +33,7 @@ impl Accounts for Lines {
     // A member's balance is its line, of which nothing is drawn.
     fn open(balances: Balances) -> Lines {
         Lines {
-            lines: balances.each.map(|limit| Line::new(limit)),
+            lines: balances.each.map(Line::new),
         }
     }
 

@@ -24,6 +24,7 @@ fn funds_of(figures: &[i64]) -> Result<Balances, Fault>
     ensures { meaning (λ b. b.each) result ≡ listed figures.now }
 {
     let mut each = [0; MEMBERS];
+    // by index: of an `iter_mut().zip(..)` no proof knows what was written
     for (i, figure) in figures.iter().enumerate() {
         each[i] = on_line(fund_of(*figure), i as u32 + 1)?;
     }

@@ -1,8 +1,14 @@
-// Both books through the same calls.
+// Both books through the same calls, and what each promises where it is opened.
+ghost use Rattle.std.specs.Prelude.{◌≡◌, IfOk};
+ghost use Rattle.ledger.specs.Books.{deposits, line_funds};
+ghost use Rattle.ledger.specs.Lines.{Untouched};
+ghost use Rattle.ledger.specs.Openings.{opened, meaning};
+
 use crate::deposit::DepositBook;
 use crate::lines::LineBook;
 use crate::transfers::{Transfer, run, side_by_side};
 use crate::*;
+use refusal::Fault;
 use std::test::Fail;
 
 const TRANSFERS: [Transfer; 5] = [
@@ -28,10 +34,23 @@ const TRANSFERS: [Transfer; 5] = [
     },
 ];
 
+fn deposit_book(funds: &[i64], house: i64) -> Result<DepositBook, Fault>
+    ensures { meaning deposits result ≡ opened funds.now house }
+{
+    DepositBook::open(funds, house)
+}
+
+fn line_book(lines: &[i64], house: i64) -> Result<LineBook, Fault>
+    ensures funds { meaning line_funds result ≡ opened lines.now house }
+    ensures undrawn { IfOk result (λ b. Untouched b.accounts.lines) }
+{
+    LineBook::open(lines, house)
+}
+
 #[test]
 fn two_books_decide_alike(rt: HostRuntime) -> Result<(), Fail> {
-    let mut deposits = DepositBook::open(&[100, 300], 0)?;
-    let mut lines = LineBook::open(&[100, 300], 0)?;
+    let mut deposits = deposit_book(&[100, 300], 0)?;
+    let mut lines = line_book(&[100, 300], 0)?;
     assert!(rt; side_by_side(&mut deposits, &mut lines, &TRANSFERS));
     assert_eq!(rt; deposits.member_fund(0), 350);
     assert_eq!(rt; lines.member_fund(0), 350);

@@ -38,6 +38,7 @@ pub fn run<L: Ledger>(
     ensures funds { L.means ledger.new ≡ granted_or result (funds_after (L.means ledger.old) transfers.now) (L.means ledger.old) }
 {
     demand(transfers.len() <= answers.len(), Refusal::ListLength)?;
+    // by index: of an `iter_mut().zip(..)` no proof knows what was written
     for (i, transfer) in transfers.iter().enumerate() {
         answers[i] = make(ledger, *transfer);
     }

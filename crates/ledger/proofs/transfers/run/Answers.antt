@@ -22,9 +22,9 @@ loop-i-preserved g c =
       places = inv.places;
       funds = funds_more f _ _ ts i _ within inv.funds one.ensures.answer one.ensures.funds;
       decided =
-        ap (λ ds. set ds i one.result) inv.decided
-        ∙ answers_more made c.args.answers.now i one.result long (omega arith)
-        ∙ ap (λ ds. ds ++ drop (i + 1) c.args.answers.now) (sym (decisions-more f _ f ts i _ within inv.funds one.ensures.answer));
+          ap (λ ds. set ds i one.result) inv.decided
+          ∙ answers_more made c.args.answers.now i one.result long (omega arith)
+          ∙ ap (λ ds. ds ++ drop (i + 1) c.args.answers.now) (sym (decisions-more f _ f ts i _ within inv.funds one.ensures.answer));
     }
 
 pub returns : goal.returns

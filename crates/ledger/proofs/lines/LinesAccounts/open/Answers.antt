@@ -1,11 +1,11 @@
 use Rattle.std.proofs.Common.{◌≡◌, ◌<◌, ◌≤◌, ℕ, suc, List, [], ◌∷◌, map, length, pos, get_or, inl, inr, sym, ap, ◌∙◌, subst, lit<, arith, rules}
+use Rattle.std.proofs.lemmas.Bool.{cases_lt}
 use Rattle.std.proofs.lemmas.Int.{ints}
 use Rattle.std.proofs.lemmas.List.{ext_get_or, get_or_past, length-map}
 use Rattle.std.specs.Array.{list_steps}
 use Rattle.std.specs.Iterator.{Yields}
 use Rattle.ledger.specs.Lines.{left, undrawn, no_limit}
 use Rattle.ledger.specs.Drawn.{fund-left}
-use Rattle.ledger.proofs.Limits.{under}
 use Rattle.ledger.proofs.lines.LinesAccounts.open.Goals as goal
 
 -- what holds at each place of a list holds of each item that comes from it
@@ -30,7 +30,7 @@ pub returns-clause-fresh : goal.returns-clause-fresh
 returns-clause-fresh c = λ k.
     let ls = c.map.result in
     let none = undrawn 0 no_limit in
-    elim (under k 32) [
+    elim (cases_lt k 32) [
       | inl h ↦ let called = (c.map.ensures.items.at k 0 none h).2 in search rules
       | inr h ↦ let long = c.map.ensures.items.long in ap (λ l. l.drawn) (get_or_past ls k none (omega arith))
     ]
