@@ -23,7 +23,7 @@ pub const AMOUNT_LIMIT: u64 = 200_000_000_000_000_000;
 
 pub const FUND_LIMIT: u64 = 4_000_000_000_000_000_000;
 
-// A ledger rejects a transfer, of which then nothing moves.
+// What a ledger answers to a transfer that it rejects: nothing has moved.
 #[derive(Clone, Copy, Debug, PartialEq, Eq)]
 pub struct Rejected;
 

@@ -16,21 +16,17 @@ served P (z ∷ xs) s t u x all y e = served P xs y.0 t u x (λ k h. subst (λ l
 pub map-requires : goal.map-requires
 map-requires c = (lit< tt, (lit< tt, (lit< tt, record { at = λ xs t q x u y f e. let h = served (λ n. n ≤ 4000000000000000000) xs c.args.balances.each t u x (λ k l. c.args.balances.limited k (omega arith)) y e in search rules })))
 
-pub returns-clause-funds : goal.returns-clause-funds
-returns-clause-funds c =
+pub returns : goal.returns
+returns c =
     let ls = c.map.result in
     let xs = c.args.balances.each in
     let none = undrawn 0 no_limit in
     let wide = c.args.balances.wide in
-    let drawn : (k : ℕ) → k < 32 → (get_or ls k none).drawn ≡ pos 0 = λ k h. let called = (c.map.ensures.items.at k 0 none h).2 in search rules in
+    let long = c.map.ensures.items.long in
     let limit : (k : ℕ) → k < 32 → (get_or ls k none).limit ≡ get_or xs k 0 = λ k h. let called = (c.map.ensures.items.at k 0 none h).2 in search rules in
-    ext_get_or 0 (map left ls) xs (length-map ls left ∙ c.map.ensures.items.long ∙ sym wide) (λ k h. let l : k < 32 = omega (arith, length-map ls left, c.map.ensures.items.long) in let d = drawn k l in let m = limit k l in fund-left ls k none c.map.ensures.items.long l ∙ omega (arith, ints))
-
-pub returns-clause-fresh : goal.returns-clause-fresh
-returns-clause-fresh c = λ k.
-    let ls = c.map.result in
-    let none = undrawn 0 no_limit in
-    elim (cases_lt k 32) [
-      | inl h ↦ let called = (c.map.ensures.items.at k 0 none h).2 in search rules
-      | inr h ↦ let long = c.map.ensures.items.long in ap (λ l. l.drawn) (get_or_past ls k none (omega arith))
-    ]
+    let drawn : (k : ℕ) → k < 32 → (get_or ls k none).drawn ≡ pos 0 = λ k h. let called = (c.map.ensures.items.at k 0 none h).2 in search rules in
+    let whole : (k : ℕ) → k < 32 → get_or (map left ls) k 0 ≡ get_or xs k 0 = λ k h. let m = limit k h in let d = drawn k h in fund-left ls k none long h ∙ omega (arith, ints) in
+    record {
+      funds = ext_get_or 0 (map left ls) xs (length-map ls left ∙ long ∙ sym wide) (λ k h. whole k (omega (arith, length-map ls left)));
+      fresh = λ k. elim (cases_lt k 32) [ inl h ↦ drawn k h | inr h ↦ ap (λ l. l.drawn) (get_or_past ls k none (omega arith)) ];
+    }
