@@ -1,3 +1,4 @@
+pub mod Drawing
 pub mod Padding
 pub mod Limits
 pub mod Runs

@@ -1,56 +1,70 @@
 -- Lists of transfers, one after the other.
-use Rattle.std.proofs.Common.{◌≡◌, ℕ, ◌+◌, ◌<◌, ◌≤◌, Bool, true, false, List, [], ◌∷◌, ◌++◌, length, get_or, take, drop, set, sym, ap, ◌∙◌, append_assoc, append-nil, arith}
-use Rattle.std.proofs.lemmas.List.{at_drop_more, at_drop_all, take_more_set, drop-set-lt, drop-drop, take-append-drop}
-use Rattle.ledger.specs.declared.Decision.{Decision}
+use Rattle.std.proofs.Common.{◌≡◌, ℕ, suc, ◌+◌, ◌<◌, Bool, true, ◌&&◌, List, [], ◌∷◌, ◌++◌, length, get_or, take, drop, set, Decides, Ok, Err, refl, sym, ap, ◌∙◌, append_assoc, add-one, arith}
+use Rattle.std.proofs.lemmas.Bool.Decides.{Decides-and}
+use Rattle.std.proofs.lemmas.List.{set_at, take_more}
+use Rattle.std.proofs.Math.Seq.{drop-cons}
+use Rattle.std.specs.Result.{result_eq}
+use Rattle.ledger.specs.declared.Rejected.{Rejected}
 use Rattle.ledger.specs.declared.transfers.Transfer.{Transfer}
 use Rattle.ledger.specs.declared.transfers.Transfer.TheVariants.{Charge}
-use Rattle.ledger.specs.Funds.{Funds}
+use Rattle.ledger.specs.Funds.{Decision, Funds}
 use Rattle.ledger.specs.Transfers.{decides, after, decisions, funds_after}
-use Rattle.ledger.specs.Laws.{Step}
 
--- one more transfer
-module _ (f f' : Funds) (ts : List Transfer) (i : ℕ) (d : Decision) (within : i < length ts) (step : Step f (get_or ts i (Charge 0 0)) d f') where
-  moved : after f (get_or ts i (Charge 0 0)) (decides f (get_or ts i (Charge 0 0))) ≡ f'
-  moved = ap (after f (get_or ts i (Charge 0 0))) (sym step.0) ∙ sym step.1
-
-  pub funds_more : funds_after f' (drop (i + 1) ts) ≡ funds_after f (drop i ts)
-  unfolding funds_after
-  funds_more = sym (at_drop_more (funds_after f) ts i (Charge 0 0) within ∙ ap (λ g. funds_after g (drop (i + 1) ts)) moved)
-
-  pub decisions-more : decisions f (drop i ts) ≡ d ∷ decisions f' (drop (i + 1) ts)
-  unfolding decisions
-  decisions-more = at_drop_more (decisions f) ts i (Charge 0 0) within ∙ ap (λ g. decides f (get_or ts i (Charge 0 0)) ∷ decisions g (drop (i + 1) ts)) moved ∙ ap (λ e. e ∷ decisions f' (drop (i + 1) ts)) (sym step.0)
-
--- none left
-pub funds_all : (f : Funds) (ts : List Transfer) (i : ℕ) → length ts ≤ i → funds_after f (drop i ts) ≡ f
+-- two lists, one after the other
+funds_after-append : (f : Funds) (xs ys : List Transfer) → funds_after f (xs ++ ys) ≡ funds_after (funds_after f xs) ys
 unfolding funds_after
-funds_all f ts i h = at_drop_all (funds_after f) ts i h
+funds_after-append f [] ys = refl
+funds_after-append f (x ∷ xs) ys = funds_after-append (after f x (decides f x)) xs ys
 
-pub decisions_all : (f : Funds) (ts : List Transfer) (i : ℕ) → length ts ≤ i → decisions f (drop i ts) ≡ []
+decisions-append : (f : Funds) (xs ys : List Transfer) → decisions f (xs ++ ys) ≡ decisions f xs ++ decisions (funds_after f xs) ys
+unfolding decisions funds_after
+decisions-append f [] ys = refl
+decisions-append f (x ∷ xs) ys = ap (λ ds. decides f x ∷ ds) (decisions-append (after f x (decides f x)) xs ys)
+
+pub length-decisions : (f : Funds) (ts : List Transfer) → length (decisions f ts) ≡ length ts
 unfolding decisions
-decisions_all f ts i h = at_drop_all (decisions f) ts i h
+length-decisions f [] = refl
+length-decisions f (t ∷ ts) = ap suc (length-decisions (after f t (decides f t)) ts)
 
--- answers written one after the other
-pub answers_more : (ds rest all : List Decision) (i : ℕ) (d : Decision) → i < length ds → take i ds ++ (d ∷ rest) ≡ all → take (i + 1) (set ds i d) ++ rest ≡ all
-answers_more ds rest all i d h e = ap (λ xs. xs ++ rest) (take_more_set ds i d h) ∙ append_assoc (take i ds) (d ∷ []) rest ∙ e
+-- one more transfer, made on the funds after those so far
+module _ (f g g' : Funds) (ts : List Transfer) (i : ℕ) (d : Decision) (within : i < length ts) (made : g ≡ funds_after f (take i ts)) (answer : d ≡ decides g (get_or ts i (Charge 0 0))) where
+  pub funds_more : g' ≡ after g (get_or ts i (Charge 0 0)) d → g' ≡ funds_after f (take (i + 1) ts)
+  unfolding funds_after
+  funds_more moved =
+      let t = get_or ts i (Charge 0 0) in
+      moved ∙ ap (after g t) answer ∙ ap (λ x. after x t (decides x t)) made ∙ sym (ap (funds_after f) (take_more ts i (Charge 0 0) within) ∙ funds_after-append f (take i ts) (t ∷ []))
 
-pub rest_more : (ds old : List Decision) (i : ℕ) (d : Decision) → drop i ds ≡ drop i old → drop (i + 1) (set ds i d) ≡ drop (i + 1) old
-rest_more ds old i d e = drop-set-lt (i + 1) ds i d (omega arith) ∙ sym (drop-drop 1 i ds) ∙ ap (drop 1) e ∙ drop-drop 1 i old
+  pub decisions-more : decisions f (take (i + 1) ts) ≡ decisions f (take i ts) ++ d ∷ []
+  unfolding decisions
+  decisions-more =
+      let t = get_or ts i (Charge 0 0) in
+      ap (decisions f) (take_more ts i (Charge 0 0) within) ∙ decisions-append f (take i ts) (t ∷ []) ∙ ap (λ x. decisions f (take i ts) ++ x ∷ []) (sym (answer ∙ ap (λ x. decides x t) made))
 
-pub answers_all : (ds old all : List Decision) (i n : ℕ) → i ≡ n → take i ds ++ [] ≡ all → drop i ds ≡ drop i old → ds ≡ all ++ drop n old
-answers_all ds old all i n same front rest =
-    sym (take-append-drop i ds) ∙ ap (λ xs. xs ++ drop i ds) (sym (append-nil (take i ds)) ∙ front) ∙ ap (λ xs. all ++ xs) (rest ∙ ap (λ k. drop k old) same)
+-- one more answer written behind those that were decided
+pub answers_more : (ds old : List Decision) (i : ℕ) (d : Decision) → length ds ≡ i → i < length old → set (ds ++ drop i old) i d ≡ (ds ++ d ∷ []) ++ drop (i + 1) old
+answers_more ds old i d long h =
+    ap (λ rest. set (ds ++ rest) i d) (drop-cons old i d h)
+    ∙ set_at ds (get_or old i d) (drop (suc i) old) d i long
+    ∙ sym (append_assoc ds (d ∷ []) (drop (suc i) old))
+    ∙ ap (λ k. (ds ++ d ∷ []) ++ drop k old) (sym (add-one i))
 
--- two lists of answers are alike where the next ones are, and the rest
-module _ {P : Type 0} (all all' ds es : List Decision) (d e : Decision) (a b : Bool) (p : all ≡ d ∷ ds) (q : all' ≡ e ∷ es) (to : a ≡ true → all ≡ all' → P) (from : P → (a ≡ true) × (all ≡ all')) where
-  pub still_alike : d ≡ e → b ≡ a → (b ≡ true → ds ≡ es → P) × (P → (b ≡ true) × (ds ≡ es))
-  still_alike same h = (
-    (λ t r. let u : all ≡ all' = cc in to (sym h ∙ t) u),
-    (λ x. let u = (from x).1 in (h ∙ (from x).0, cc)),
-  )
+-- two lists of answers are alike with one more where they were, and the two more are
+last_same : (xs ys : List Decision) (d e : Decision) → length xs ≡ length ys → xs ++ d ∷ [] ≡ ys ++ e ∷ [] → (xs ≡ ys) × (d ≡ e)
+last_same [] [] d e long p = (refl, cc)
+last_same [] (y ∷ ys) d e long p = absurd (omega arith)
+last_same (x ∷ xs) [] d e long p = absurd (omega arith)
+last_same (x ∷ xs) (y ∷ ys) d e long p = let rest : xs ++ d ∷ [] ≡ ys ++ e ∷ [] = cc in let q = last_same xs ys d e (omega arith) rest in let r = q.0 in (cc, q.1)
 
-  pub not_alike : (d ≡ e → ⊥) → b ≡ false → (b ≡ true → ds ≡ es → P) × (P → (b ≡ true) × (ds ≡ es))
-  not_alike differ h = (
-    (λ t r. let never : ◌≡◌ {A = Bool} true false = sym t ∙ h in absurd (grind arith)),
-    (λ x. let u = (from x).1 in let same : d ≡ e = cc in absurd (differ same)),
-  )
+pub alike_more : (a b : Bool) (xs ys : List Decision) (d e : Decision) → length xs ≡ length ys → Decides a (xs ≡ ys) → Decides b (d ≡ e) → Decides (a && b) (xs ++ d ∷ [] ≡ ys ++ e ∷ [])
+alike_more a b xs ys d e long so-far here =
+    let both = Decides-and a b so-far here in (
+      (λ t. let p = both.0 t in let q = p.0 in let r = p.1 in cc),
+      (λ p. both.1 (last_same xs ys d e long p)),
+    )
+
+-- `==` tells whether two answers are the same
+pub answers_equal : (E : Unit {0} → Unit {0} → Bool) (F : Rejected → Rejected → Bool) → E tt tt ≡ true → F (record {}) (record {}) ≡ true → (d e : Decision) → Decides (result_eq E F d e) (d ≡ e)
+answers_equal E F p q (Ok u) (Ok v) = ((λ t. refl), (λ t. p))
+answers_equal E F p q (Ok u) (Err y) = ((λ t. cc), (λ t. cc))
+answers_equal E F p q (Err x) (Ok v) = ((λ t. cc), (λ t. cc))
+answers_equal E F p q (Err x) (Err y) = ((λ t. refl), (λ t. q))

@@ -1,10 +1,8 @@
 -- What holds of every ledger, from its contract alone.
 use Rattle.std.specs.Prelude.{◌≡◌, ℕ, ◌+◌, ◌<◌, ◌≤◌, ◌≢◌, List, [], ◌∷◌, sum}
-use Rattle.ledger.specs.declared.Decision.{Decision}
-use Rattle.ledger.specs.declared.Decision.TheVariants.{Approved, Rejected}
 use Rattle.ledger.specs.declared.transfers.Transfer.{Transfer}
 use Rattle.ledger.specs.declared.transfers.Transfer.TheVariants.{Charge, Credit, TopUp}
-use Rattle.ledger.specs.Funds.{Funds, Whole, fund, approved_or, fund_limit, amount_limit}
+use Rattle.ledger.specs.Funds.{Decision, Funds, Whole, fund, approved, rejected, approved_or, fund_limit, amount_limit}
 use Rattle.ledger.specs.Transfers.{decides, after, decisions, funds_after}
 
 -- one transfer on a ledger that means these funds: just what the ledger's contract promises
@@ -55,15 +53,15 @@ pub record LedgerLaws : Type 0 where
   -- a charge or a credit leaves the sum of all funds, and a top-up raises it by its amount
   pub charge_total : (f f' : Funds) (m a : ℕ) (d : Decision) → Whole f → Step f (Charge m a) d f' → total f' ≡ total f
   pub credit_total : (f f' : Funds) (m a : ℕ) (d : Decision) → Whole f → Step f (Credit m a) d f' → total f' ≡ total f
-  pub top_up_total : (f f' : Funds) (m a : ℕ) → Whole f → Step f (TopUp m a) Approved f' → total f' ≡ total f + a
+  pub top_up_total : (f f' : Funds) (m a : ℕ) → Whole f → Step f (TopUp m a) approved f' → total f' ≡ total f + a
   pub run_total : {f f' : Funds} {ts : List Transfer} {ds : List Decision} → Whole f → Run f ts ds f' → total f' ≡ total f + all_paid_in ts ds
   -- only the member that is named and the house fund move, and by a top-up not the house fund
   pub others : (f f' : Funds) (t : Transfer) (d : Decision) (k : ℕ) → Step f t d f' → k ≢ named t → fund f' k ≡ fund f k
   pub top_up_house : (f f' : Funds) (m a : ℕ) (d : Decision) → Step f (TopUp m a) d f' → f'.house ≡ f.house
-  -- a rejection moves nothing
-  pub rejected : (f f' : Funds) (t : Transfer) → Step f t Rejected f' → f' ≡ f
   -- just what is allowed is approved
-  pub approved : (f f' : Funds) (t : Transfer) → Step f t Approved f' → Allowed f t
-  pub allowed : (f f' : Funds) (t : Transfer) (d : Decision) → Step f t d f' → Allowed f t → d ≡ Approved
+  pub allowed : (f f' : Funds) (t : Transfer) (d : Decision) → Step f t d f' → Allowed f t → d ≡ approved
+  pub approved : (f f' : Funds) (t : Transfer) → Step f t approved f' → Allowed f t
+  -- a rejection moves nothing
+  pub rejected : (f f' : Funds) (t : Transfer) → Step f t rejected f' → f' ≡ f
   -- funds within their limits stay within them
   pub limits : (f f' : Funds) (t : Transfer) (d : Decision) → Whole f → Step f t d f' → Whole f'

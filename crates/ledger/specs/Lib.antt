@@ -1,8 +1,8 @@
 pub mod Funds
-pub mod Deposits
+pub mod Books
 pub mod Openings
+pub mod Drawing
 pub mod Lines
-pub mod LineFunds
 pub mod Transfers
 pub mod Laws
 pub mod Drawn

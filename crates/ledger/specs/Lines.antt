@@ -1,27 +1,34 @@
 -- A member's line, what is drawn on it and what is left.
-use Rattle.std.specs.Prelude.{◌≡◌, ℕ, ◌≤◌, List, ℤ, pos, ◌+ℤ◌, ◌-ℤ◌, ◌≤ℤ◌, slice_index_or, unsigned_abs}
+use Rattle.std.specs.Prelude.{◌≡◌, ℕ, ◌≤◌, List, ℤ, pos, ◌+ℤ◌, slice_index_or}
+use Rattle.std.proofs.Common.{lit≤, arith}
+use Rattle.std.proofs.lemmas.Int.{ints}
 use Rattle.ledger.specs.declared.line.Line.{Line}
 use Rattle.ledger.specs.Funds.{fund_limit}
+use Rattle.ledger.specs.Drawing.{left_of, Fair}
 
 -- what a member may still draw
 abbrev pub left : Line → ℕ
-left l = unsigned_abs (pos l.limit -ℤ l.drawn)
+left l = left_of l.limit l.drawn
+
+-- nothing drawn is fair
+pub fair_undrawn : (limit : ℕ) → limit ≤ fund_limit → Fair limit (pos 0)
+fair_undrawn limit h = (h, omega (arith, ints), omega (arith, ints))
 
 -- a line with nothing drawn
-abbrev pub undrawn : ℕ → Line
-undrawn limit = record { limit = limit; drawn = pos 0 }
+abbrev pub undrawn : (limit : ℕ) → limit ≤ fund_limit → Line
+undrawn limit h = record { limit = limit; drawn = pos 0; fair = fair_undrawn limit h }
 
--- a line with so much more drawn on it, or less where that is below 0; the line itself stays
-abbrev pub drawn_by : Line → ℤ → Line
-drawn_by l by = record { limit = l.limit; drawn = l.drawn +ℤ by }
+-- a line, and the same with so much more drawn on it, or less where that is below 0; the line itself stays
+abbrev pub DrawnBy : Line → ℤ → Line → Type 0
+DrawnBy l by l' = (l'.limit ≡ l.limit) × (l'.drawn ≡ l.drawn +ℤ by)
+
+-- no line at all
+pub no_limit : 0 ≤ fund_limit
+no_limit = lit≤ tt
 
 -- the line at a member's place
 abbrev pub line_at : List Line → ℕ → Line
-line_at ls m = slice_index_or ls m (undrawn 0)
-
--- a line is a fund's size at most, no more is drawn than it, and what is left is a fund's size at most
-abbrev pub Fair : Line → Type 0
-Fair l = (l.limit ≤ fund_limit) × (l.drawn ≤ℤ pos l.limit) × (left l ≤ fund_limit)
+line_at ls m = slice_index_or ls m (undrawn 0 no_limit)
 
 -- nothing is drawn on any line
 abbrev pub Untouched : List Line → Type 0

@@ -1,5 +1,6 @@
 -- How a book is opened: which figures it refuses, and the funds it begins with.
 use Rattle.std.specs.Prelude.{ℕ, ◌+◌, ◌-◌, List, [], ◌∷◌, ◌++◌, map, length, replicate, ℤ, pos, Ok, Err, Result, nat_le, unsigned_abs}
+use Rattle.ledger.specs.declared.accounts.Balances.{Balances}
 use Rattle.refusal.specs.declared.Fault.{Fault}
 use Rattle.refusal.specs.declared.Refusal.{Refusal}
 use Rattle.refusal.specs.declared.Refusal.TheVariants.{Amount, ListLength}
@@ -40,6 +41,6 @@ abbrev pub meaning : {X Y E : Type 0} → (X → Y) → Result X E → Result Y 
 meaning f (Ok x) = Ok (f x)
 meaning f (Err e) = Err e
 
--- the funds of a list and a figure
-abbrev pub funds_of : List ℕ × ℕ → Funds
-funds_of p = record { members = p.0; house = p.1 }
+-- the funds of 32 balances and a figure
+abbrev pub funds_of : Balances × ℕ → Funds
+funds_of p = record { members = p.0.each; house = p.1 }

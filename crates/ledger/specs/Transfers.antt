@@ -1,9 +1,8 @@
 -- Lists of transfers: what a ledger decides on each in its turn, and the funds after them. Of the funds alone, so the same for every ledger.
 use Rattle.std.specs.Prelude.{List, [], ◌∷◌, Ok, Err, Result}
-use Rattle.ledger.specs.declared.Decision.{Decision}
 use Rattle.ledger.specs.declared.transfers.Transfer.{Transfer}
 use Rattle.ledger.specs.declared.transfers.Transfer.TheVariants.{Charge, Credit, TopUp}
-use Rattle.ledger.specs.Funds.{Funds, decides_charge, decides_credit, decides_top_up, after_charge, after_credit, after_top_up}
+use Rattle.ledger.specs.Funds.{Decision, Funds, decides_charge, decides_credit, decides_top_up, after_charge, after_credit, after_top_up}
 
 -- what a ledger decides on a transfer
 abbrev pub decides : Funds → Transfer → Decision

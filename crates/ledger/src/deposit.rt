@@ -1,14 +1,33 @@
-// The deposit book: it keeps the balance of each member and of the house.
-ghost use Rattle.std.specs.Prelude.{◌≡◌, ℕ, ◌<◌, ◌≤◌, length, slice_index};
-ghost use Rattle.ledger.specs.Funds.{fund_limit};
+// The deposit book: its accounts are the members' balances.
 
-mod calls;
+use crate::accounts::{Accounts, Balances};
+use crate::book::Book;
+use members::Member;
 
-#[derive(Drop)]
-pub struct DepositBook {
-    members: [u64; 32],
-    house: u64,
-    ghost wide: { length members ≡ 32 },
-    ghost limited: { (k : ℕ) → k < 32 → slice_index members k ≤ fund_limit },
-    ghost ceiling: { house ≤ fund_limit },
+pub type DepositBook = Book<Balances>;
+
+impl Accounts for Balances {
+    ghost holds = { λ b. b.each };
+
+    ghost Fresh = { λ b. Unit {0} };
+
+    ghost wide = { λ b. b.wide };
+
+    ghost limited = { λ b. b.limited };
+
+    fn open(balances: Balances) -> Balances {
+        balances
+    }
+
+    fn fund(&self, member: Member) -> u64 {
+        self.each[member.index()]
+    }
+
+    fn lower(&mut self, member: Member, amount: u64) {
+        self.each[member.index()] -= amount;
+    }
+
+    fn raise(&mut self, member: Member, amount: u64) {
+        self.each[member.index()] += amount;
+    }
 }

@@ -4,7 +4,8 @@
 ghost use Rattle.std.specs.Prelude.{◌≡◌};
 ghost use Rattle.ledger.specs.Funds.{Funds, Whole, fund, decides_charge, decides_credit, decides_top_up, after_charge, after_credit, after_top_up};
 
-mod balances;
+mod accounts;
+mod book;
 pub mod deposit;
 pub mod laws;
 mod line;
@@ -15,36 +16,33 @@ mod tests;
 pub mod transfers;
 
 // Members count from 0.
-pub const MEMBERS: usize = 32;
+pub use members::MEMBERS;
 
 // The largest amount of a transfer, and the most that a fund holds, in centavos.
 pub const AMOUNT_LIMIT: u64 = 200_000_000_000_000_000;
 
 pub const FUND_LIMIT: u64 = 4_000_000_000_000_000_000;
 
-// What a ledger answers to a charge, a credit or a top-up.
+// What a ledger answers to a transfer that it rejects: nothing has moved.
 #[derive(Clone, Copy, Debug, PartialEq, Eq)]
-pub enum Decision {
-    Approved,
-    Rejected,
-}
+pub struct Rejected;
 
 // Treasury's payment system. Members count from 0 to 31, amounts are centavos, and figures may be any.
 pub trait Ledger {
     ghost means: { Self → Funds };
 
     // Moves an amount from a member's fund to the house fund.
-    fn charge(&mut self, member: usize, amount: u64) -> Decision
+    fn charge(&mut self, member: usize, amount: u64) -> Result<(), Rejected>
         ensures answer { result ≡ decides_charge (means self.old) member amount }
         ensures funds { means self.new ≡ after_charge (means self.old) member amount result };
 
     // Moves an amount from the house fund to a member's fund.
-    fn credit(&mut self, member: usize, amount: u64) -> Decision
+    fn credit(&mut self, member: usize, amount: u64) -> Result<(), Rejected>
         ensures answer { result ≡ decides_credit (means self.old) member amount }
         ensures funds { means self.new ≡ after_credit (means self.old) member amount result };
 
     // Adds an amount from outside to a member's fund.
-    fn top_up(&mut self, member: usize, amount: u64) -> Decision
+    fn top_up(&mut self, member: usize, amount: u64) -> Result<(), Rejected>
         ensures answer { result ≡ decides_top_up (means self.old) member amount }
         ensures funds { means self.new ≡ after_top_up (means self.old) member amount result };
 

@@ -1,17 +1,53 @@
-// The line book: it keeps a line and a drawn balance of each member, and the balance of the house.
-ghost use Rattle.std.specs.Prelude.{◌≡◌, ℕ, ◌<◌, ◌≤◌, length};
-ghost use Rattle.ledger.specs.Lines.{Fair, line_at};
-ghost use Rattle.ledger.specs.Funds.{fund_limit};
+// The line book: its accounts are a line of each member, and what is drawn on it.
+ghost use Rattle.std.specs.Prelude.{◌≡◌, length};
 
+use crate::MEMBERS;
+use crate::accounts::{Accounts, Balances};
+use crate::book::Book;
 use crate::line::Line;
+use members::Member;
 
-mod calls;
+pub type LineBook = Book<Lines>;
 
 #[derive(Drop)]
-pub struct LineBook {
-    lines: [Line; 32],
-    house: u64,
+pub struct Lines {
+    lines: [Line; MEMBERS],
     ghost wide: { length lines ≡ 32 },
-    ghost fair: { (k : ℕ) → k < 32 → Fair (line_at lines k) },
-    ghost ceiling: { house ≤ fund_limit },
+}
+
+impl Accounts for Lines {
+    ghost use Rattle.std.specs.Prelude.{map};
+    ghost use Rattle.ledger.specs.Lines.{left, Untouched};
+    ghost use Rattle.ledger.specs.Drawn.{each_left};
+    ghost use Rattle.std.proofs.Common.{◌∙◌};
+    ghost use Rattle.std.proofs.lemmas.List.{length-map};
+
+    ghost holds = { λ b. map left b.lines };
+
+    ghost Fresh = { λ b. Untouched b.lines };
+
+    ghost wide = { λ b. length-map b.lines left ∙ b.wide };
+
+    ghost limited = { λ b. each_left b.lines b.wide };
+
+    // A member's balance is its line, of which nothing is drawn.
+    fn open(balances: Balances) -> Lines {
+        Lines {
+            lines: balances.each.map(Line::new),
+        }
+    }
+
+    fn fund(&self, member: Member) -> u64 {
+        self.lines[member.index()].left()
+    }
+
+    fn lower(&mut self, member: Member, amount: u64) {
+        let i = member.index();
+        self.lines[i] = self.lines[i].draw(amount);
+    }
+
+    fn raise(&mut self, member: Member, amount: u64) {
+        let i = member.index();
+        self.lines[i] = self.lines[i].repay(amount);
+    }
 }

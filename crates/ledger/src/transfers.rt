@@ -4,7 +4,7 @@ ghost use Rattle.refusal.specs.Checks.{check, raised};
 ghost use Rattle.refusal.specs.declared.Refusal.TheVariants.{ListLength};
 ghost use Rattle.ledger.specs.Transfers.{decides, after, decisions, funds_after, granted_or};
 
-use crate::{Decision, Ledger};
+use crate::{Ledger, Rejected};
 use refusal::{Fault, Refusal, demand};
 
 #[derive(Clone, Copy, Debug, PartialEq, Eq)]
@@ -15,7 +15,7 @@ pub enum Transfer {
 }
 
 // Makes one transfer.
-pub fn make<L: Ledger>(ledger: &mut L, transfer: Transfer) -> Decision
+pub fn make<L: Ledger>(ledger: &mut L, transfer: Transfer) -> Result<(), Rejected>
     ensures answer { result ≡ decides (L.means ledger.old) transfer }
     ensures funds { L.means ledger.new ≡ after (L.means ledger.old) transfer result }
 {
@@ -31,13 +31,14 @@ pub fn make<L: Ledger>(ledger: &mut L, transfer: Transfer) -> Decision
 pub fn run<L: Ledger>(
     ledger: &mut L,
     transfers: &[Transfer],
-    answers: &mut [Decision],
+    answers: &mut [Result<(), Rejected>],
 ) -> Result<(), Fault>
     ensures answer { result ≡ raised (check (nat_le (length transfers.now) (length answers.old)) ListLength) }
     ensures decided { answers.new ≡ granted_or result (decisions (L.means ledger.old) transfers.now ++ drop (length transfers.now) answers.old) answers.old }
     ensures funds { L.means ledger.new ≡ granted_or result (funds_after (L.means ledger.old) transfers.now) (L.means ledger.old) }
 {
     demand(transfers.len() <= answers.len(), Refusal::ListLength)?;
+    // by index: of an `iter_mut().zip(..)` no proof knows what was written
     for (i, transfer) in transfers.iter().enumerate() {
         answers[i] = make(ledger, *transfer);
     }
@@ -58,9 +59,7 @@ pub fn side_by_side<L: Ledger, R: Ledger>(
 {
     let mut alike = true;
     for transfer in transfers {
-        if make(first, *transfer) != make(second, *transfer) {
-            alike = false;
-        }
+        alike &= make(first, *transfer) == make(second, *transfer);
     }
     alike
 }

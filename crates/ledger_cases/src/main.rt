@@ -4,13 +4,14 @@
 //   fund MEMBER, house, funds                 the questions; the last is one for each of the 32 members
 #![tactic(auto)]
 
-use anyhow::{Context, anyhow};
+use anyhow::{Context, bail};
 use ledger::deposit::DepositBook;
 use ledger::lines::LineBook;
 use ledger::transfers::{Transfer, make};
-use ledger::{Decision, Ledger, MEMBERS};
+use ledger::{Ledger, MEMBERS, Rejected};
 use refusal::Fault;
 use std::alloc::{AllocError, Global};
+use std::fmt::Write;
 use std::io::{BufRead, BufReader};
 
 // A word's number: a member, or an amount.
@@ -19,12 +20,12 @@ fn number(word: Option<&str>) -> anyhow::Result<u64> {
 }
 
 fn transfer_of(name: &str, member: usize, amount: u64) -> anyhow::Result<Transfer> {
-    match name {
-        "charge" => Ok(Transfer::Charge { member, amount }),
-        "credit" => Ok(Transfer::Credit { member, amount }),
-        "top_up" => Ok(Transfer::TopUp { member, amount }),
-        _ => Err(anyhow!("no such call")),
-    }
+    Ok(match name {
+        "charge" => Transfer::Charge { member, amount },
+        "credit" => Transfer::Credit { member, amount },
+        "top_up" => Transfer::TopUp { member, amount },
+        _ => bail!("no such call"),
+    })
 }
 
 // What is decided on a transfer, and the two funds that it may move.
@@ -36,8 +37,8 @@ fn decided<L: Ledger>(
     amount: u64,
 ) -> anyhow::Result<String> {
     let decision = match make(ledger, transfer_of(name, member, amount)?) {
-        Decision::Approved => "approved",
-        Decision::Rejected => "rejected",
+        Ok(()) => "approved",
+        Err(Rejected) => "rejected",
     };
     let fund = ledger.member_fund(member);
     let house = ledger.house_fund();
@@ -49,7 +50,7 @@ fn funds<L: Ledger>(heap: Global, ledger: &L) -> Result<String, AllocError> {
     let mut told = String::new(heap);
     for member in 0..MEMBERS {
         let fund = ledger.member_fund(member);
-        told.push_str(format!(in heap; " {fund}")?.as_str())?;
+        write!(told, " {fund}")?;
     }
     Ok(told)
 }
@@ -57,28 +58,27 @@ fn funds<L: Ledger>(heap: Global, ledger: &L) -> Result<String, AllocError> {
 // What a ledger answers to a call.
 fn answer<L: Ledger>(heap: Global, ledger: &mut L, call: &str) -> anyhow::Result<String> {
     let mut words = call.split(' ');
-    let name = words.next().context("no call")?;
-    if name == "house" {
-        return Ok(ledger.house_fund().to_string(heap)?);
+    match words.next().context("no call")? {
+        "house" => Ok(ledger.house_fund().to_string(heap)?),
+        "funds" => Ok(funds(heap, ledger)?),
+        "fund" => {
+            let member = number(words.next())? as usize;
+            Ok(ledger.member_fund(member).to_string(heap)?)
+        }
+        name => {
+            let member = number(words.next())? as usize;
+            decided(heap, ledger, name, member, number(words.next())?)
+        }
     }
-    if name == "funds" {
-        return Ok(funds(heap, ledger)?);
-    }
-    let member = number(words.next())? as usize;
-    if name == "fund" {
-        return Ok(ledger.member_fund(member).to_string(heap)?);
-    }
-    decided(heap, ledger, name, member, number(words.next())?)
 }
 
 // The figures of an opening: the house fund, and then the members'.
 fn figures(heap: Global, words: &str) -> anyhow::Result<(i64, Vec<i64>)> {
     let mut words = words.split(' ');
     let house = words.next().context("no house fund")?.parse::<i64>()?;
-    let mut funds = Vec::new(heap);
-    for word in words {
-        funds.push(word.parse::<i64>()?)?;
-    }
+    let funds = words
+        .map(|word| -> anyhow::Result<i64> { Ok(word.parse::<i64>()?) })
+        .try_collect(heap)?;
     Ok((house, funds))
 }
 
@@ -125,12 +125,8 @@ fn answers(
 
 fn main(rt: HostRuntime) -> anyhow::Result<()> {
     let heap = rt.alloc();
-    let Ok(mut deposits) = DepositBook::open(&[], 0) else {
-        return Err(anyhow!("no deposit book"));
-    };
-    let Ok(mut lines) = LineBook::open(&[], 0) else {
-        return Err(anyhow!("no line book"));
-    };
+    let mut deposits = DepositBook::open(&[], 0).ok().context("no deposit book")?;
+    let mut lines = LineBook::open(&[], 0).ok().context("no line book")?;
     for call in BufReader::new(heap, rt.stdin())?.lines(heap) {
         let call = call?;
         rt.print(answers(heap, &mut deposits, &mut lines, call.as_str())?)?;

@@ -1,50 +1,45 @@
-use denote.Enum.Bare.{differs_true, differs_false}
-use Rattle.std.proofs.Common.{◌≡◌, get_or, drop, sym, ap, ◌∙◌}
-use Rattle.ledger.specs.contracts.Decision.{the_type}
-use Rattle.ledger.specs.declared.transfers.Transfer.TheVariants.{Charge}
-use Rattle.ledger.specs.Laws.{Step}
+use Rattle.std.proofs.Common.{◌≡◌, Decides, take, refl, sym, ap, ◌∙◌, subst}
+use Rattle.std.proofs.lemmas.List.{take_all}
 use Rattle.ledger.specs.Transfers.{decisions, funds_after}
-use Rattle.ledger.proofs.Runs.{funds_more, decisions-more, funds_all, decisions_all, still_alike, not_alike}
+use Rattle.ledger.proofs.Runs.{funds_more, decisions-more, length-decisions, alike_more, answers_equal}
 use Rattle.ledger.proofs.transfers.side_by_side.Goals as goal
-use Rattle.ledger.proofs.transfers.side_by_side.Goals.{then-ne, else-ne}
+
+pub loop-transfer-init : goal.loop-transfer-init
+unfolding decisions funds_after
+loop-transfer-init g c = record { first = refl; second = refl; alike = ((λ t. refl), (λ p. refl)) }
 
 pub loop-transfer-preserved : goal.loop-transfer-preserved
 loop-transfer-preserved g c =
     let ts = c.args.transfers.now in
     let i = c.loop-transfer.transfer-index in
-    let d = c.make.result in
-    let e = c.make-in-loop-transfer.result in
-    let f = g.L.Ledger.means c.loop-transfer.first in
-    let f' = g.L.Ledger.means c.make.new.ledger in
-    let h = g.R.Ledger.means c.loop-transfer.second in
-    let h' = g.R.Ledger.means c.make-in-loop-transfer.new.ledger in
-    let one : Step f (get_or ts i (Charge 0 0)) d f' = (c.make.ensures.answer, c.make.ensures.funds) in
-    let two : Step h (get_or ts i (Charge 0 0)) e h' = (c.make-in-loop-transfer.ensures.answer, c.make-in-loop-transfer.ensures.funds) in
-    let within = c.loop-transfer-test.true in
-    let p = decisions-more f f' ts i d within one in
-    let q = decisions-more h h' ts i e within two in
+    let f = g.L.Ledger.means c.args.first.now in
+    let h = g.R.Ledger.means c.args.second.now in
+    let one = c.make in
+    let two = c.make-in-loop-transfer in
     let inv = c.loop-transfer.invariant in
-    let funds = funds_more f f' ts i d within one ∙ inv.0 in
-    let funds' = funds_more h h' ts i e within two ∙ inv.1 in
-    elim c.if-ne.branch [
-      | then-ne w ↦ let r = not_alike _ _ _ _ d e c.loop-transfer.alike c.if-ne.alike p q inv.2 inv.3 (differs_true the_type d e (sym c.ne.ensures ∙ w.if-ne.true)) w.alike-is in (funds, funds', r.0, r.1)
-      | else-ne w ↦ let r = still_alike _ _ _ _ d e c.loop-transfer.alike c.if-ne.alike p q inv.2 inv.3 (differs_false the_type tt d e (sym c.ne.ensures ∙ w.if-ne.false)) w.alike-is in (funds, funds', r.0, r.1)
-    ]
+    let within = c.loop-transfer-test.true in
+    let long = length-decisions f (take i ts) ∙ sym (length-decisions h (take i ts)) in
+    let same = subst (λ b. Decides b (one.result ≡ two.result)) (sym c.eq-alike.ensures) (answers_equal _ _ refl refl one.result two.result) in
+    let alike = alike_more _ _ _ _ _ _ long inv.alike same in
+    record {
+      first = funds_more f _ _ ts i _ within inv.first one.ensures.answer one.ensures.funds;
+      second = funds_more h _ _ ts i _ within inv.second two.ensures.answer two.ensures.funds;
+      alike = rw (decisions-more f _ f ts i _ within inv.first one.ensures.answer, decisions-more h _ h ts i _ within inv.second two.ensures.answer) alike;
+    }
 
 pub returns : goal.returns
 returns g c =
     let ts = c.args.transfers.now in
-    let i = c.loop-transfer.transfer-index in
-    let done = c.loop-transfer-test.false in
-    let f = g.L.Ledger.means c.loop-transfer.first in
-    let h = g.R.Ledger.means c.loop-transfer.second in
+    let f = g.L.Ledger.means c.args.first.now in
+    let h = g.R.Ledger.means c.args.second.now in
     let inv = c.loop-transfer.invariant in
-    let none : decisions f (drop i ts) ≡ decisions h (drop i ts) = decisions_all f ts i done ∙ sym (decisions_all h ts i done) in
-    let first = sym (funds_all f ts i done) ∙ inv.0 in
-    let second = sym (funds_all h ts i done) ∙ inv.1 in
+    let all = take_all c.loop-transfer.transfer-index ts c.loop-transfer-test.false in
+    let first = inv.first ∙ ap (funds_after f) all in
+    let second = inv.second ∙ ap (funds_after h) all in
+    let answer = subst (λ xs. Decides c.loop-transfer.alike (decisions f xs ≡ decisions h xs)) all inv.alike in
     record {
-      answer = ((λ t. inv.2 t none), (λ x. (inv.3 x).0));
+      answer = answer;
       first = first;
       second = second;
-      equal = λ x. ((inv.3 (ap (λ y. decisions y ts) x)).0, first ∙ ap (λ y. funds_after y ts) x ∙ sym second);
+      equal = λ x. (answer.1 (ap (λ y. decisions y ts) x), first ∙ ap (λ y. funds_after y ts) x ∙ sym second);
     }

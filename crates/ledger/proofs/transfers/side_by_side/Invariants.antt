@@ -1,11 +1,15 @@
-use Rattle.std.proofs.Common.{◌≡◌, true, drop}
+use Rattle.std.proofs.Common.{◌≡◌, Decides, take}
 use Rattle.ledger.specs.Transfers.{decisions, funds_after}
 use Rattle.ledger.proofs.transfers.side_by_side.Given as goal
 
--- what is left gives the rest of the answer
+-- what is promised of all transfers, of those made so far
 abbrev pub invariant-loop-transfer : goal.invariant-loop-transfer
 invariant-loop-transfer g l =
-    (funds_after (g.L.Ledger.means l.first) (drop l.transfer-index l.transfers) ≡ funds_after (g.L.Ledger.means l.initial.first) l.transfers)
-    × (funds_after (g.R.Ledger.means l.second) (drop l.transfer-index l.transfers) ≡ funds_after (g.R.Ledger.means l.initial.second) l.transfers)
-    × (l.alike ≡ true → decisions (g.L.Ledger.means l.first) (drop l.transfer-index l.transfers) ≡ decisions (g.R.Ledger.means l.second) (drop l.transfer-index l.transfers) → decisions (g.L.Ledger.means l.initial.first) l.transfers ≡ decisions (g.R.Ledger.means l.initial.second) l.transfers)
-    × (decisions (g.L.Ledger.means l.initial.first) l.transfers ≡ decisions (g.R.Ledger.means l.initial.second) l.transfers → (l.alike ≡ true) × (decisions (g.L.Ledger.means l.first) (drop l.transfer-index l.transfers) ≡ decisions (g.R.Ledger.means l.second) (drop l.transfer-index l.transfers)))
+    let made = take l.transfer-index l.transfers in
+    let f = g.L.Ledger.means l.initial.first in
+    let h = g.R.Ledger.means l.initial.second in
+    record {
+      first : g.L.Ledger.means l.first ≡ funds_after f made;
+      second : g.R.Ledger.means l.second ≡ funds_after h made;
+      alike : Decides l.alike (decisions f made ≡ decisions h made);
+    }
