@@ -14,21 +14,18 @@ ghost use Rattle.house.specs.Calls.{afterwards, accepting, asking, answering, wi
 use crate::house::House;
 use book::book::Book;
 use book::calls::{Offer, Reply, Request};
+use members::MEMBERS;
 use refusal::{Fault, Refusal, demand};
+use sheet::order::Order;
 use std::alloc::{AllocError, Global};
 use swaps::ends::End;
 use swaps::swap::Swap;
 
 // No order is outstanding.
-fn settled(orders: &[i64]) -> bool
+fn settled(orders: &[Option<Order>]) -> bool
     ensures { result ≡ settled orders.now }
 {
-    for order in orders {
-        if *order != 0 {
-            return false;
-        }
-    }
-    true
+    orders.iter().all(|order| order.is_none())
 }
 
 impl House {
@@ -38,7 +35,7 @@ impl House {
     {
         Ok(House {
             book: Book::new(heap)?,
-            orders: [0; 32],
+            orders: [None; MEMBERS],
         })
     }
 
@@ -48,7 +45,7 @@ impl House {
         ensures after { holding self.new ≡ afterwards (opening members accounts.now) (holding self.old) (λ m. new_house (new_book m (map unsigned_abs accounts.now))) }
     {
         self.book.open(members, accounts)?;
-        self.orders = [0; 32];
+        self.orders = [None; MEMBERS];
         Ok(())
     }
 

@@ -2,11 +2,13 @@
 ghost use Rattle.std.specs.Prelude.{◌≡◌, length};
 
 use book::book::Book;
+use members::MEMBERS;
+use sheet::order::Order;
 
-// The book, and what is outstanding with each member: a charge below 0, a credit above, 0 where there is no order.
+// The book, and the order that is outstanding with each member, where there is one.
 #[derive(Drop)]
 pub struct House {
     pub(crate) book: Book,
-    pub(crate) orders: [i64; 32],
+    pub(crate) orders: [Option<Order>; MEMBERS],
     ghost wide: { length orders ≡ 32 },
 }
