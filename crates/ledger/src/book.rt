@@ -6,7 +6,7 @@ use crate::accounts::Accounts;
 use crate::opening::opening;
 use crate::{AMOUNT_LIMIT, FUND_LIMIT, Ledger, Rejected};
 use members::Member;
-use refusal::Fault;
+use refusal::{Fault, demand};
 
 #[derive(Drop)]
 pub struct Book<A> {
@@ -15,26 +15,19 @@ pub struct Book<A> {
     ghost ceiling: { house ≤ fund_limit },
 }
 
-// A condition that fails rejects.
-fn provided(ok: bool) -> Result<(), Rejected>
-    ensures { result ≡ provided ok approved }
-{
-    if ok { Ok(()) } else { Err(Rejected) }
-}
-
 // Whether an amount may come from outside into a fund.
 fn decide_inflow(amount: u64, to: u64) -> Result<(), Rejected>
     ensures { result ≡ provided (good_amount amount) (provided (room to amount) approved) }
 {
-    provided((1..=AMOUNT_LIMIT).contains(&amount))?;
-    provided(to <= FUND_LIMIT - amount)
+    demand((1..=AMOUNT_LIMIT).contains(&amount), Rejected)?;
+    demand(to <= FUND_LIMIT - amount, Rejected)
 }
 
 // Whether an amount may move from one fund to another.
 fn decide_move(amount: u64, from: u64, to: u64) -> Result<(), Rejected>
     ensures { result ≡ provided (good_amount amount) (provided (covers from amount) (provided (room to amount) approved)) }
 {
-    provided(amount <= from)?;
+    demand(amount <= from, Rejected)?;
     decide_inflow(amount, to)
 }
 

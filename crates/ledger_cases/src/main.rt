@@ -82,12 +82,6 @@ fn figures(heap: Global, words: &str) -> anyhow::Result<(i64, Vec<i64>)> {
     Ok((house, funds))
 }
 
-fn refused(heap: Global, fault: &Fault) -> Result<String, AllocError> {
-    let number = fault.refusal().number();
-    let line = fault.line();
-    format!(in heap; "fault={number} line={line}")
-}
-
 // Puts a book that was opened in the place of the old one, which stays where the opening was refused.
 fn replaced<B: Drop>(
     heap: Global,
@@ -99,7 +93,7 @@ fn replaced<B: Drop>(
             *book = new;
             String::from_str(heap, "opened")
         }
-        Err(fault) => refused(heap, &fault),
+        Err(fault) => fault.to_string(heap),
     }
 }
 

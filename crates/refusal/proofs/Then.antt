@@ -24,7 +24,7 @@ then_ok (Ok u) x y e = (refl, e)
 then_ok (Err z) x y e = let never : ◌≡◌ {A = ℕ} 0 1 = cc in absurd (omega arith)
 
 -- what was demanded holds
-pub check_passed : (ok : Bool) (r : Refusal) → true ≡ is_ok (check ok r) → ok ≡ true
+pub check_passed : {E : Type 0} (ok : Bool) (r : E) → true ≡ is_ok (check ok r) → ok ≡ true
 check_passed true r e = refl
 check_passed false r e = sym e
 

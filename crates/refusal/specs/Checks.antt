@@ -9,7 +9,7 @@ unfoldable pub within : ℤ → ℤ → ℤ → Bool
 within low high x = int_le low x && int_le x high
 
 -- a check passes, or gives its refusal
-abbrev pub check : Bool → Refusal → Result Unit Refusal
+abbrev pub check : {E : Type 0} → Bool → E → Result Unit E
 check ok e = cond ok (Ok tt) (Err e)
 
 -- the first check that fails gives the refusal, and else the rest is the answer

@@ -1,5 +1,5 @@
 -- The number of each refusal, and a fault's place.
-use Rattle.std.specs.Prelude.{ℕ}
+use Rattle.std.specs.Prelude.{ℕ, List, ◌++◌, codes, decimal}
 use Rattle.refusal.specs.declared.Refusal.{Refusal}
 use Rattle.refusal.specs.declared.Refusal.TheVariants.{OutOfRange, SameAccount, UnknownKind, Nominal, Amount, Session, MarketFigure, Leg, Factor, ListLength, Scenarios, Sensitivity, BadSheet, SettlementUnderWay, BookFull, NoSuchSwap, NotParty, JustRegistered, NotPlain, NothingAsked, NoSuchOrder, ChargesOutstanding, LedgerRejected, NumbersUsedUp, NpvNotZero}
 use Rattle.refusal.specs.declared.Fault.{Fault}
@@ -42,3 +42,7 @@ on_line n f = record { refusal = f.refusal; line = n; observation = f.observatio
 -- the same fault at an observation of its line
 abbrev pub on_observation : ℕ → Fault → Fault
 on_observation n f = record { refusal = f.refusal; line = f.line; observation = n }
+
+-- a fault as text: its number and its line
+abbrev pub fault_text : Fault → List ℕ
+fault_text f = codes "fault=" ++ decimal (number f.refusal) ++ codes " line=" ++ decimal f.line

@@ -1,9 +1,11 @@
 // The refusals of the engine, a fault with its place, and the form of an ordered check.
 #![tactic(auto)]
 
-ghost use Rattle.std.specs.Prelude.{◌≡◌, ◌<◌, ◌≤◌, IfOk};
-ghost use Rattle.refusal.specs.Refusals.{number, bare, on_line, on_observation};
+ghost use Rattle.std.specs.Prelude.{◌≡◌, ◌<◌, ◌≤◌, Some, IfOk};
+ghost use Rattle.refusal.specs.Refusals.{number, bare, on_line, on_observation, fault_text};
 ghost use Rattle.refusal.specs.Checks.{within, check, count_of, placed, seen};
+
+use std::fmt;
 
 #[cfg(test)]
 mod tests;
@@ -80,6 +82,17 @@ impl From<Refusal> for Fault {
     }
 }
 
+// The fault's number and line, as a report has them.
+impl fmt::Display for Fault {
+    ghost output = { λ f. Some (fault_text f) };
+
+    fn fmt<W: fmt::Write>(&self, f: &mut fmt::Formatter<W>) -> fmt::Result {
+        let number = self.refusal.number();
+        let line = self.line;
+        write!(f, "fault={number} line={line}")
+    }
+}
+
 impl Fault {
     // The same fault at a line: an item of a list, or a line of a sheet.
     pub fn at_line(self, line: u32) -> Fault
@@ -124,8 +137,8 @@ pub fn inside(low: i64, high: i64, figure: i64) -> bool
     (low..=high).contains(&figure)
 }
 
-// One check of several: it passes, or it gives its refusal.
-pub fn demand(ok: bool, refusal: Refusal) -> Result<(), Refusal>
+// One check of several: it passes, or it gives its refusal, of whatever kind.
+pub fn demand<E: Drop>(ok: bool, refusal: E) -> Result<(), E>
     ensures { result ≡ check ok refusal }
 {
     if ok { Ok(()) } else { Err(refusal) }
