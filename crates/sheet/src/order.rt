@@ -39,13 +39,7 @@ pub(crate) fn count_orders(nets: &[i64]) -> usize
     ensures answer { result ≡ orders nets.now }
     ensures bound { result ≤ length nets.now }
 {
-    let mut count = 0;
-    for net in nets {
-        if order_of(*net).is_some() {
-            count += 1;
-        }
-    }
-    count
+    nets.iter().filter(|net| order_of(**net).is_some()).count()
 }
 
 // The centavos that a net charges.
@@ -62,17 +56,14 @@ fn charge_of(net: i64) -> u64
 pub(crate) fn sum_charges(nets: &[i64]) -> u128
     ensures { result ≡ charges nets.now }
 {
-    let mut sum = 0;
-    for net in nets {
-        sum += u128::from(charge_of(*net));
-    }
-    sum
+    nets.iter().map(|net| u128::from(charge_of(*net))).sum()
 }
 
 // What the nets add up to.
 pub(crate) fn sum_nets(nets: &[i64]) -> i128
     ensures { result ≡ total nets.now }
 {
+    // a loop, since the bound of a chain's signed sum is not proved
     let mut sum = 0;
     for net in nets {
         sum += i128::from(*net);

@@ -16,12 +16,7 @@ use refusal::{Fault, Refusal, demand, inside};
 fn payable(nets: &[i64]) -> bool
     ensures { result ≡ payable nets.now }
 {
-    for net in nets {
-        if !inside(-200_000_000_000_000_000, 200_000_000_000_000_000, *net) {
-            return false;
-        }
-    }
-    true
+    nets.iter().all(|net| inside(-200_000_000_000_000_000, 200_000_000_000_000_000, *net))
 }
 
 // A sheet can hold the session and the nets, and its charges and credits have the same sum.
