@@ -12,6 +12,9 @@ use Rattle.sheet.proofs.Numerals.{after_some, after_key}
 pub some_same : {X : Type 0} {x y : X} → Some x ≡ Some y → x ≡ y
 some_same e = cc
 
+pub none_some : {X Z : Type 0} {x : X} → None ≡ Some x → Z
+none_some e = let never : ◌≡◌ {A = ℕ} 0 1 = cc in absurd (omega arith)
+
 pub cond_some : {X : Type 0} (b : Bool) (o : Option X) (y : X) → cond b o None ≡ Some y → (b ≡ true) × (o ≡ Some y)
 cond_some true o y e = (refl, e)
 cond_some false o y e = let never : ◌≡◌ {A = ℕ} 0 1 = cc in absurd (omega arith)

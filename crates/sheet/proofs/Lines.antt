@@ -1,6 +1,7 @@
 -- The lines of a sheet, one order after another.
-use Rattle.std.proofs.Common.{◌≡◌, ℕ, zero, suc, ◌+◌, ◌<◌, ◌≤◌, List, [], ◌∷◌, ◌++◌, length, get_or, drop, set, ℤ, pos, sym, refl, ap, ◌∙◌, append_assoc, arith}
+use Rattle.std.proofs.Common.{◌≡◌, ℕ, zero, suc, ◌+◌, ◌<◌, ◌≤◌, List, [], ◌∷◌, ◌++◌, length, get_or, drop, set, ℤ, pos, decimal, sym, refl, ap, ◌∙◌, append_assoc, arith}
 use Rattle.std.proofs.lemmas.List.{append-nil, at_drop_more, at_drop_all}
+use Rattle.std.proofs.lemmas.Fmt.{length-decimal-le}
 use Rattle.std.specs.List.{flat_map}
 use Rattle.sheet.specs.Orders.{order_of}
 use Rattle.sheet.specs.Text.{ended, order_lines, all_lines}
@@ -57,3 +58,13 @@ lines-set m (suc k) (y ∷ ys) z lt h =
     let there : m + 1 + k ≡ m + suc k = omega arith in
     let regroup = append_assoc (order_lines m (order_of y)) (all_lines (m + 1) ys) (order_lines (m + suc k) (order_of z)) in
     rw (more, there) (sym regroup)
+
+-- how long the numerals of a sheet are
+pub member_long : (m : ℕ) → m < 32 → length (decimal m) ≤ 2
+member_long m few = length-decimal-le 2 m (omega arith) (omega arith) (omega arith)
+
+pub session_long : (n : ℕ) → n ≤ 100000 → length (decimal n) ≤ 6
+session_long n few = length-decimal-le 6 n (omega arith) (omega arith) (omega arith)
+
+pub amount_long : (n : ℕ) → n ≤ 200000000000000000 → length (decimal n) ≤ 18
+amount_long n few = length-decimal-le 18 n (omega arith) (omega arith) (omega arith)
