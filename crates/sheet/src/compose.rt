@@ -2,8 +2,8 @@
 ghost use Rattle.std.specs.Prelude.{◌≡◌, ◌+◌, ◌≤◌, true, ◌++◌, length, Some, decimal, unsigned_abs};
 ghost use Rattle.std.specs.List.{flat_map};
 ghost use Rattle.arrayvec.specs.ArrayString.{array_string_len};
-ghost use Rattle.sheet.specs.Orders.{order_of, amount};
-ghost use Rattle.sheet.specs.Text.{ended, side_line, order_lines, text};
+ghost use Rattle.sheet.specs.Orders.{order_of};
+ghost use Rattle.sheet.specs.Text.{ended, order_lines, text};
 ghost use Rattle.sheet.specs.Writing.{payable};
 
 use crate::order::{Order, count_orders, order_of};
@@ -13,17 +13,6 @@ use members::Member;
 
 // Room for the text of one sheet.
 pub(crate) type Page = ArrayString<2048>;
-
-// The line of an order's side.
-fn side_line(order: Order) -> &'static str
-    ensures line { result.now ≡ side_line order }
-    ensures len { length result.now ≡ 12 }
-{
-    match order {
-        Order::Charge(_) => "order=charge",
-        Order::Credit(_) => "order=credit",
-    }
-}
 
 // Adds a line of a key and a number.
 fn add_line(page: &mut Page, key: &str, n: u64)
@@ -40,14 +29,14 @@ fn add_line(page: &mut Page, key: &str, n: u64)
 #[tactic(auto, using(crate::proofs::Lines::member_long, crate::proofs::Lines::amount_long))]
 fn add_order(page: &mut Page, member: Member, order: Order)
     requires room { array_string_len page.old + 51 ≤ 2048 }
-    requires order { amount order ≤ 200000000000000000 }
+    requires order { order.centavos ≤ 200000000000000000 }
     ensures text { page.new.bytes ≡ page.old.bytes ++ flat_map ended (order_lines member (Some order)) }
     ensures bound { array_string_len page.new ≤ array_string_len page.old + 51 }
 {
     add_line(page, "member=", member.index() as u64);
-    page.push_str(side_line(order));
+    page.push_str(order.side.line());
     page.push_str("\n");
-    add_line(page, "centavos=", order.centavos());
+    add_line(page, "centavos=", order.centavos);
 }
 
 // Adds the lines of the order that a member's net makes, if it makes one.

@@ -1,11 +1,11 @@
-use Rattle.std.proofs.Common.{◌≡◌, ℕ, ◌+◌, ◌<◌, cond, ltb, ◌++◌, length, get_or, drop, pos, codes, decimal, Some, None, Option, sym, ap, ◌∙◌, arith, w64, SFits, rules}
-use Rattle.std.proofs.lemmas.Bool.{lt-ltb}
+use Rattle.std.proofs.Common.{◌≡◌, ◌+◌, ◌++◌, length, get_or, drop, pos, codes, decimal, sym, ap, ◌∙◌, arith, w64, SFits, rules}
 use Rattle.std.proofs.lemmas.Int.{ints, to_z-of_z}
 use Rattle.std.specs.List.{flat_map}
 use Rattle.sheet.specs.Orders.{order_of, orders}
 use Rattle.sheet.specs.Text.{ended, order_lines, all_lines, text}
 use Rattle.arrayvec.specs.ArrayString.{ArrayString}
-use Rattle.sheet.proofs.Fields.{some_same, none_some}
+use Rattle.sheet.proofs.Numerals.{some_same, none_some}
+use Rattle.sheet.proofs.Fields.{seat}
 use Rattle.sheet.proofs.Lines.{rest_more, rest_all, shift, finish}
 use Rattle.sheet.proofs.Nets.{payable_at}
 use Rattle.sheet.proofs.compose.compose.Goals as goal
@@ -17,10 +17,6 @@ add_net-requires-clause-net c =
     let f : SFits w64 x = search rules in
     let bound = payable_at c.args.nets.now c.loop-number.number c.requires.nets in
     omega (arith, ints)
-
--- the member of a number below 32
-seat : (n : ℕ) (o : Option ℕ) → n < 32 → o ≡ cond (ltb n 32) (Some n) None → o ≡ Some n
-seat n o few e = let lt = lt-ltb n 32 few in cc
 
 pub loop-number-preserved : goal.loop-number-preserved
 loop-number-preserved c =
