@@ -28,7 +28,7 @@ use Rattle.sheet.proofs.Numerals.{none_some}
 use Rattle.sheet.proofs.Nets.{payable_at, orders_le}
 
 -- no LF in it
-abbrev plain : List ℕ → Bool
+abbrev pub plain : List ℕ → Bool
 plain [] = true
 plain (c ∷ cs) = not (eqb c 10) && plain cs
 
@@ -44,7 +44,7 @@ plain_decimal : (n : ℕ) → n < 2 ^ 64 → plain (decimal n) ≡ true
 plain_decimal n small = plain_digits (decimal n) (digits_decimal (numerals_by_value (λ ds. all_ascii_digits ds ≡ true) tells_all_ascii_digits) n small)
 
 -- a whole line
-line_read : (l : List ℕ) (r : Reading) (part : List ℕ) (n : ℕ) (rest : List ℕ) → plain l ≡ true → read_on r part n (l ++ (10 ∷ rest)) ≡ judged (step r (part ++ l)) n (λ q. read_on q [] (n + 1) rest)
+pub line_read : (l : List ℕ) (r : Reading) (part : List ℕ) (n : ℕ) (rest : List ℕ) → plain l ≡ true → read_on r part n (l ++ (10 ∷ rest)) ≡ judged (step r (part ++ l)) n (λ q. read_on q [] (n + 1) rest)
 line_read [] r part n rest p = read_line r part n 10 rest refl ∙ ap (λ xs. judged (step r xs) n (λ q. read_on q [] (n + 1) rest)) (sym (append-nil part))
 line_read (c ∷ l) r part n rest p =
     let q = and_parts (not (eqb c 10)) (plain l) p in
