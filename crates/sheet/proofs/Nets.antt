@@ -1,12 +1,14 @@
 -- What a net orders, counted.
-use Rattle.std.proofs.Common.{◌≡◌, ℕ, zero, suc, ◌+◌, ◌≤◌, cond, true, List, [], ◌∷◌, length, get_or, set, ℤ, pos, negsuc, nat_abs, is_some, refl, arith}
+use Rattle.std.proofs.Common.{◌≡◌, ℕ, zero, suc, ◌+◌, ◌≤◌, cond, true, eqb, List, [], ◌∷◌, length, get_or, set, ℤ, pos, negsuc, ◌+ℤ◌, nat_abs, is_some, refl, sym, arith}
 use Rattle.refusal.proofs.Within.{within_low, within_high, within-from}
 use Rattle.std.proofs.lemmas.List.Recursion.{is_sum_by, is_count_by, and_set}
 use Rattle.std.proofs.lemmas.List.Sums.{count_by-le-length}
 use Rattle.std.proofs.lemmas.Int.{ints}
-use Rattle.std.proofs.lemmas.Bool.{and_parts}
+use Rattle.std.proofs.lemmas.Bool.{and_parts, eq-eqb, ne_eqb}
 use Rattle.std.specs.List.{sum_by, count_by}
-use Rattle.sheet.specs.Orders.{order_of, orders, charge, charges, nil}
+use Rattle.sheet.specs.declared.order.Side.{Side}
+use Rattle.sheet.specs.declared.order.Side.TheVariants.{Charge, Credit}
+use Rattle.sheet.specs.Orders.{order_of, orders, moved, sum_of, total, nil}
 use Rattle.sheet.specs.Writing.{payable}
 
 -- how many orders there are and what is charged, in std's words
@@ -17,8 +19,23 @@ orders_count nets = is_count_by orders (λ z. is_some (order_of z)) refl step ne
   step (pos (suc n)) zs = refl
   step (negsuc n) zs = refl
 
-pub charges_sum : (nets : List ℤ) → charges nets ≡ sum_by (λ z. charge (order_of z)) nets
-charges_sum nets = is_sum_by charges (λ z. charge (order_of z)) refl (λ _ _. refl) nets
+pub sum_of_sum : (d : Side) (nets : List ℤ) → sum_of d nets ≡ sum_by (λ z. moved d (order_of z)) nets
+sum_of_sum d nets = is_sum_by (sum_of d) (λ z. moved d (order_of z)) refl (λ _ _. refl) nets
+
+-- charges and credits have the same sum just where the nets add up to 0
+sides : (nets : List ℤ) → total nets +ℤ pos (sum_of Charge nets) ≡ pos (sum_of Credit nets)
+sides [] = refl
+sides (pos zero ∷ zs) = let h = sides zs in omega (arith, ints)
+sides (pos (suc n) ∷ zs) = let h = sides zs in omega (arith, ints)
+sides (negsuc n ∷ zs) = let h = sides zs in omega (arith, ints)
+
+nil_from : (z : ℤ) (a b : ℕ) → z +ℤ pos a ≡ pos b → nil z ≡ eqb a b
+nil_from (pos zero) a b e = sym (eq-eqb a b (omega (arith, ints)))
+nil_from (pos (suc n)) a b e = sym (ne_eqb a b (λ same. omega (arith, ints)))
+nil_from (negsuc n) a b e = sym (ne_eqb a b (λ same. omega (arith, ints)))
+
+pub nil_total : (nets : List ℤ) → nil (total nets) ≡ eqb (sum_of Charge nets) (sum_of Credit nets)
+nil_total nets = nil_from (total nets) (sum_of Charge nets) (sum_of Credit nets) (sides nets)
 
 pub orders_le : (nets : List ℤ) → orders nets ≤ length nets
 orders_le nets = let le = count_by-le-length (λ z. is_some (order_of z)) nets in let same = orders_count nets in omega arith

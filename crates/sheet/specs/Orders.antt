@@ -20,25 +20,35 @@ abbrev pub one : Option Order → ℕ
 one None = 0
 one (Some o) = 1
 
--- the centavos that count as charged
+-- an amount, where the side is that of a charge, or 0
 abbrev pub charged : Side → ℕ → ℕ
 charged Charge n = n
 charged Credit n = 0
 
--- the centavos of a charge, or 0
-abbrev pub charge : Option Order → ℕ
-charge None = 0
-charge (Some o) = charged o.side o.centavos
+-- and where it is that of a credit
+abbrev pub credited : Side → ℕ → ℕ
+credited Charge n = 0
+credited Credit n = n
+
+-- the centavos of an order, where it is of that side, or 0
+abbrev pub moved : Side → Option Order → ℕ
+moved d None = 0
+moved Charge (Some o) = charged o.side o.centavos
+moved Credit (Some o) = credited o.side o.centavos
 
 -- how many orders there are
 abbrev pub orders : List ℤ → ℕ
 orders [] = 0
 orders (z ∷ zs) = one (order_of z) + orders zs
 
+-- what the orders of a side add up to
+abbrev pub sum_of : Side → List ℤ → ℕ
+sum_of d [] = 0
+sum_of d (z ∷ zs) = moved d (order_of z) + sum_of d zs
+
 -- what the charges add up to
 abbrev pub charges : List ℤ → ℕ
-charges [] = 0
-charges (z ∷ zs) = charge (order_of z) + charges zs
+charges = sum_of Charge
 
 -- what the nets add up to
 abbrev pub total : List ℤ → ℤ

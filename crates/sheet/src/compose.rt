@@ -1,12 +1,12 @@
 // Composes the text of a sheet on a page.
-ghost use Rattle.std.specs.Prelude.{◌≡◌, ◌+◌, ◌≤◌, true, ◌++◌, length, Some, decimal, unsigned_abs};
+ghost use Rattle.std.specs.Prelude.{◌≡◌, ◌+◌, ◌≤◌, true, ◌++◌, length, decimal, unsigned_abs};
 ghost use Rattle.std.specs.List.{flat_map};
 ghost use Rattle.arrayvec.specs.ArrayString.{array_string_len};
 ghost use Rattle.sheet.specs.Orders.{order_of};
 ghost use Rattle.sheet.specs.Text.{ended, order_lines, text};
 ghost use Rattle.sheet.specs.Writing.{payable};
 
-use crate::order::{Order, count_orders, order_of};
+use crate::order::{count_orders, order_of};
 use arrayvec::ArrayString;
 use itoa::Buffer;
 use members::Member;
@@ -25,30 +25,21 @@ fn add_line(page: &mut Page, key: &str, n: u64)
     page.push_str("\n");
 }
 
-// Adds the three lines of a member's order.
+// Adds the three lines of the order that a member's net makes, if it makes one.
 #[tactic(auto, using(crate::proofs::Lines::member_long, crate::proofs::Lines::amount_long))]
-fn add_order(page: &mut Page, member: Member, order: Order)
-    requires room { array_string_len page.old + 51 ≤ 2048 }
-    requires order { order.centavos ≤ 200000000000000000 }
-    ensures text { page.new.bytes ≡ page.old.bytes ++ flat_map ended (order_lines member (Some order)) }
-    ensures bound { array_string_len page.new ≤ array_string_len page.old + 51 }
-{
-    add_line(page, "member=", member.index() as u64);
-    page.push_str(order.side.line());
-    page.push_str("\n");
-    add_line(page, "centavos=", order.centavos);
-}
-
-// Adds the lines of the order that a member's net makes, if it makes one.
 fn add_net(page: &mut Page, member: Member, net: i64)
     requires room { array_string_len page.old + 51 ≤ 2048 }
     requires net { unsigned_abs net ≤ 200000000000000000 }
     ensures text { page.new.bytes ≡ page.old.bytes ++ flat_map ended (order_lines member (order_of net)) }
     ensures bound { array_string_len page.new ≤ array_string_len page.old + 51 }
 {
-    if let Some(order) = order_of(net) {
-        add_order(page, member, order);
-    }
+    let Some(order) = order_of(net) else {
+        return;
+    };
+    add_line(page, "member=", member.index() as u64);
+    page.push_str(order.side.line());
+    page.push_str("\n");
+    add_line(page, "centavos=", order.centavos);
 }
 
 // The text of a sheet of that session and those nets.

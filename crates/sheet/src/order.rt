@@ -1,6 +1,6 @@
 // An order of a member, and what a list of nets orders.
 ghost use Rattle.std.specs.Prelude.{◌≡◌, ◌≤◌, length};
-ghost use Rattle.sheet.specs.Orders.{order_of, charge, orders, charges, total, nil};
+ghost use Rattle.sheet.specs.Orders.{order_of, moved, orders, sum_of, total, nil};
 ghost use Rattle.sheet.specs.Text.{side_line};
 
 use std::cmp::Ordering;
@@ -55,43 +55,27 @@ pub(crate) fn count_orders(nets: &[i64]) -> usize
     nets.iter().filter(|net| order_of(**net).is_some()).count()
 }
 
-// The centavos that a net charges.
-fn charge_of(net: i64) -> u64
-    ensures { result ≡ charge (order_of net) }
+// The centavos that a net moves on that side.
+fn moved(side: Side, net: i64) -> u64
+    ensures { result ≡ moved side (order_of net) }
 {
     match order_of(net) {
-        Some(
-            Order {
-                side: Side::Charge,
-                centavos,
-            },
-        ) => centavos,
+        Some(order) if order.side == side => order.centavos,
         _ => 0,
     }
 }
 
-// What the charges add up to.
-pub(crate) fn sum_charges(nets: &[i64]) -> u128
-    ensures { result ≡ charges nets.now }
+// What the orders of that side add up to.
+pub(crate) fn sum_of(side: Side, nets: &[i64]) -> u128
+    ensures { result ≡ sum_of side nets.now }
 {
-    nets.iter().map(|net| u128::from(charge_of(*net))).sum()
-}
-
-// What the nets add up to.
-pub(crate) fn sum_nets(nets: &[i64]) -> i128
-    ensures { result ≡ total nets.now }
-{
-    // a loop, since the bound of a chain's signed sum is not proved
-    let mut sum = 0;
-    for net in nets {
-        sum += i128::from(*net);
-    }
-    sum
+    nets.iter().map(|net| u128::from(moved(side, *net))).sum()
 }
 
 // Whether charges and credits have the same sum.
+#[tactic(auto, using(crate::proofs::Nets::nil_total))]
 pub(crate) fn balanced(nets: &[i64]) -> bool
     ensures { result ≡ nil (total nets.now) }
 {
-    sum_nets(nets) == 0
+    sum_of(Side::Charge, nets) == sum_of(Side::Credit, nets)
 }

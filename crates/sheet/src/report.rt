@@ -3,7 +3,7 @@ ghost use Rattle.std.specs.Prelude.{◌≡◌, ℕ, ◌<◌, List, ◌++◌, len
 ghost use Rattle.sheet.specs.Reading.{reads};
 ghost use Rattle.sheet.specs.Report.{reported};
 
-use crate::order::{count_orders, sum_charges};
+use crate::order::{Side, count_orders, sum_of};
 use crate::reader::read;
 use crate::reading::Sheet;
 use refusal::Fault;
@@ -19,7 +19,7 @@ fn told(heap: Global, answer: Result<Sheet, Fault>) -> Result<String, AllocError
     match answer {
         Ok(sheet) => {
             let orders = count_orders(&sheet.nets);
-            let charges = sum_charges(&sheet.nets);
+            let charges = sum_of(Side::Charge, &sheet.nets);
             format!(in heap; "orders={orders}\ncharges={charges}\n")
         }
         Err(fault) => {
