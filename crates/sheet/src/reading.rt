@@ -5,14 +5,14 @@ ghost use Rattle.sheet.specs.Numerals.{trim, numeral, field, onward};
 ghost use Rattle.sheet.specs.Reading.{start, step, step_at, side, at_end, member_or_end, netted};
 
 use crate::order::{Side, balanced, count_orders};
-use members::Member;
+use members::{MEMBERS, Member};
 use std::str;
 
 // A cash sheet: its session, and the net of each member. A negative net is a charge, a positive one a credit.
 #[derive(Clone, Copy, Debug, PartialEq, Eq)]
 pub struct Sheet {
     pub session: u32,
-    pub nets: [i64; 32],
+    pub nets: [i64; MEMBERS],
 }
 
 // What the next line has to be.
@@ -72,7 +72,7 @@ fn side(line: &[u8]) -> Option<Side>
 }
 
 // The last line, where it counts the orders and they add up.
-fn at_end(line: &[u8], nets: &[i64; 32]) -> Option<Next>
+fn at_end(line: &[u8], nets: &[i64; MEMBERS]) -> Option<Next>
     ensures { result ≡ at_end nets.now line.now }
 {
     let count = count_orders(nets) as u64;
@@ -84,12 +84,12 @@ fn at_end(line: &[u8], nets: &[i64; 32]) -> Option<Next>
 fn member(line: &[u8], lowest: usize) -> Option<Member>
     ensures { result ≡ field (codes "member=") lowest 31 line.now }
 {
-    let number = field(line, b"member=", lowest as u64, 31)?;
+    let number = field(line, b"member=", lowest as u64, MEMBERS as u64 - 1)?;
     Member::new(number as usize)
 }
 
 // The line of the next order's member, or the last line.
-fn member_or_end(line: &[u8], lowest: usize, nets: &[i64; 32]) -> Option<Next>
+fn member_or_end(line: &[u8], lowest: usize, nets: &[i64; MEMBERS]) -> Option<Next>
     ensures { result ≡ member_or_end (field (codes "member=") lowest 31 line.now) (at_end nets.now line.now) }
 {
     match member(line, lowest) {
@@ -155,7 +155,7 @@ impl Reading {
         Reading {
             sheet: Sheet {
                 session: 0,
-                nets: [0; 32],
+                nets: [0; MEMBERS],
             },
             next: Next::Session,
         }

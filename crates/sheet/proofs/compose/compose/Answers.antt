@@ -1,12 +1,11 @@
-use Rattle.std.proofs.Common.{◌≡◌, ◌+◌, ◌++◌, length, get_or, drop, pos, codes, decimal, sym, ap, ◌∙◌, arith, w64, SFits, rules}
+use Rattle.std.proofs.Common.{◌++◌, length, get_or, pos, codes, decimal, sym, ap, ◌∙◌, arith, w64, SFits, rules}
 use Rattle.std.proofs.lemmas.Int.{ints, to_z-of_z}
-use Rattle.std.specs.List.{flat_map}
-use Rattle.sheet.specs.Orders.{order_of, orders}
-use Rattle.sheet.specs.Text.{ended, order_lines, all_lines, text}
+use Rattle.sheet.specs.Orders.{orders}
+use Rattle.sheet.specs.Text.{ended, all_lines, text}
 use Rattle.arrayvec.specs.ArrayString.{ArrayString}
 use Rattle.sheet.proofs.Numerals.{some_same, none_some}
 use Rattle.sheet.proofs.Fields.{seat}
-use Rattle.sheet.proofs.Lines.{rest_more, rest_all, shift, finish}
+use Rattle.sheet.proofs.Lines.{net_on, rest_all, finish}
 use Rattle.sheet.proofs.Nets.{payable_at}
 use Rattle.sheet.proofs.compose.compose.Goals as goal
 use Rattle.sheet.proofs.compose.compose.Goals.{in-Some, in_default}
@@ -23,11 +22,8 @@ loop-number-preserved c =
     let n = c.loop-number.number in
     let x = get_or c.args.nets.now n (pos 0) in
     let f : SFits w64 x = search rules in
-    let page = c.loop-number.page.bytes in
-    let rest = flat_map ended (all_lines (n + 1) (drop (n + 1) c.args.nets.now)) in
-    let left = rest_more c.args.nets.now n c.loop-number-test.true in
     let own = seat n c.new.result (omega arith) c.new.ensures in
-    elim c.match-new.branch [ in-Some w ↦ (let same : w.in-Some.member ≡ n = some_same (sym w.in-Some.is ∙ own) in (let bytes = ap (λ (p : ArrayString). p.bytes) w.page-is in let added = bytes ∙ w.add_net.ensures.text ∙ ap (λ z. page ++ flat_map ended (order_lines w.in-Some.member (order_of z))) (to_z-of_z w64 x f) ∙ ap (λ m. page ++ flat_map ended (order_lines m (order_of x))) same in (omega (arith, ap length bytes, w.add_net.ensures.bound), shift page c.match-new.page.bytes (flat_map ended (order_lines n (order_of x))) rest _ added (ap (λ zs. page ++ zs) (sym left) ∙ c.loop-number.invariant.1)))) | in_default w ↦ absurd (none_some (sym w.in_default.is ∙ own)) ]
+    elim c.match-new.branch [ in-Some w ↦ (let bytes = ap (λ (p : ArrayString). p.bytes) w.page-is in (omega (arith, ap length bytes, w.add_net.ensures.bound), net_on c.args.nets.now n c.loop-number.page.bytes c.match-new.page.bytes _ c.loop-number-test.true (bytes ∙ (rw (some_same (sym w.in-Some.is ∙ own), to_z-of_z w64 x f) at w.add_net.ensures.text)) c.loop-number.invariant.1)) | in_default w ↦ absurd (none_some (sym w.in_default.is ∙ own)) ]
 
 pub returns : goal.returns
 unfolding text
