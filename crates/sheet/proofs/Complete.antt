@@ -1,5 +1,5 @@
 -- The text of a sheet is read as that sheet.
-use Rattle.std.proofs.Common.{◌≡◌, ℕ, zero, suc, ◌+◌, ◌-◌, ◌^◌, ◌<◌, ◌≤◌, Bool, true, false, cond, not, ◌&&◌, eqb, List, [], ◌∷◌, ◌++◌, length, get_or, drop, set, replicate, ℤ, pos, negsuc, ◌+ℤ◌, neg_ℤ, nat_abs, Some, None, Ok, codes, decimal, sym, refl, ap, ◌∙◌, subst, append_assoc, add-one, arith}
+use Rattle.std.proofs.Common.{◌≡◌, ℕ, zero, suc, ◌+◌, ◌-◌, ◌^◌, ◌<◌, ◌≤◌, Bool, true, false, cond, not, ◌&&◌, eqb, List, [], ◌∷◌, ◌++◌, length, get_or, drop, set, replicate, ℤ, pos, negsuc, ◌+ℤ◌, nat_abs, Some, None, Ok, codes, decimal, sym, refl, ap, ◌∙◌, subst, append_assoc, add-one, arith}
 use Rattle.std.proofs.lemmas.Fmt.{digits_decimal}
 use Rattle.std.proofs.lemmas.List.Edits.{sets, sets-eq}
 use Rattle.std.proofs.lemmas.List.{append-nil, length-set, get_or-set_other, set-get_or, length-replicate, drop-replicate}
@@ -11,22 +11,24 @@ use Rattle.std.specs.List.{flat_map}
 use Rattle.std.specs.Char.{is_ascii_digit}
 use Rattle.std.specs.Str.{all_ascii_digits}
 use Rattle.sheet.specs.declared.order.Order.{Order}
-use Rattle.sheet.specs.declared.order.Order.TheVariants.{Charge, Credit}
-use Rattle.sheet.specs.declared.reading.Next.TheVariants.{MemberOrEnd, Side, Charged, Credited, Nothing}
+use Rattle.sheet.specs.declared.order.Side.{Side}
+use Rattle.sheet.specs.declared.order.Side.TheVariants.{Charge, Credit}
+use Rattle.sheet.specs.declared.reading.Next.TheVariants.{MemberOrEnd, SideOf, CentavosOf, Nothing}
 use Rattle.sheet.specs.declared.reading.Reading.{Reading}
 use Rattle.sheet.specs.declared.reading.Sheet.{Sheet}
 use Rattle.sheet.specs.Laws.{sheet_of}
 use Rattle.sheet.specs.Numerals.{field, onward}
-use Rattle.sheet.specs.Orders.{one, order_of, orders, total, nil}
+use Rattle.sheet.specs.Orders.{one, order_of, net_of, orders, total, nil}
 use Rattle.sheet.specs.Reading.{start, step, read_on, reads, judged, member_or_end, at_end, go_on, netted}
-use Rattle.sheet.specs.Text.{ended, order_lines, all_lines, lines, text}
+use Rattle.sheet.specs.Text.{ended, side_line, order_lines, all_lines, lines, text}
 use Rattle.sheet.specs.Writing.{payable, Sendable}
 use Rattle.sheet.proofs.Fields.{field_line}
 use Rattle.sheet.proofs.Judging.{read_line, read_byte, zeros_at}
+use Rattle.sheet.proofs.Numerals.{none_some}
 use Rattle.sheet.proofs.Nets.{payable_at, orders_le}
 
 -- no LF in it
-abbrev plain : List ℕ → Bool
+abbrev pub plain : List ℕ → Bool
 plain [] = true
 plain (c ∷ cs) = not (eqb c 10) && plain cs
 
@@ -42,7 +44,7 @@ plain_decimal : (n : ℕ) → n < 2 ^ 64 → plain (decimal n) ≡ true
 plain_decimal n small = plain_digits (decimal n) (digits_decimal (numerals_by_value (λ ds. all_ascii_digits ds ≡ true) tells_all_ascii_digits) n small)
 
 -- a whole line
-line_read : (l : List ℕ) (r : Reading) (part : List ℕ) (n : ℕ) (rest : List ℕ) → plain l ≡ true → read_on r part n (l ++ (10 ∷ rest)) ≡ judged (step r (part ++ l)) n (λ q. read_on q [] (n + 1) rest)
+pub line_read : (l : List ℕ) (r : Reading) (part : List ℕ) (n : ℕ) (rest : List ℕ) → plain l ≡ true → read_on r part n (l ++ (10 ∷ rest)) ≡ judged (step r (part ++ l)) n (λ q. read_on q [] (n + 1) rest)
 line_read [] r part n rest p = read_line r part n 10 rest refl ∙ ap (λ xs. judged (step r xs) n (λ q. read_on q [] (n + 1) rest)) (sym (append-nil part))
 line_read (c ∷ l) r part n rest p =
     let q = and_parts (not (eqb c 10)) (plain l) p in
@@ -71,26 +73,32 @@ runs_read {r} {q} (more {l = l} {q = s} {ls = ls} c e h) n rest =
 abbrev at : Sheet → ℕ → Reading
 at s low = record { sheet = s; next = MemberOrEnd low }
 
-member_step : (s : Sheet) (low k : ℕ) → low ≤ k → k < 32 → step (at s low) (codes "member=" ++ decimal k) ≡ Some (record { sheet = s; next = Side k })
+member_step : (s : Sheet) (low k : ℕ) → low ≤ k → k < 32 → step (at s low) (codes "member=" ++ decimal k) ≡ Some (record { sheet = s; next = SideOf k })
 unfolding step
 member_step s low k least seat = ap (λ o. go_on s (member_or_end o (at_end s.nets (codes "member=" ++ decimal k)))) (field_line (codes "member=") low 31 k least (omega arith) (omega arith))
 
-charge-step : (s : Sheet) (k n : ℕ) → 1 ≤ n → n ≤ 200000000000000000 → step (record { sheet = s; next = Charged k }) (codes "centavos=" ++ decimal n) ≡ Some (netted s k (neg_ℤ (pos n)))
+side_step : (s : Sheet) (k : ℕ) (d : Side) → step (record { sheet = s; next = SideOf k }) (side_line d) ≡ Some (record { sheet = s; next = CentavosOf k d })
 unfolding step
-charge-step s k n least most = ap (λ o. onward o (λ m. Some (netted s k (neg_ℤ (pos m))))) (field_line (codes "centavos=") 1 200000000000000000 n least most (omega arith))
+side_step s k Charge = refl
+side_step s k Credit = refl
 
-credit_step : (s : Sheet) (k n : ℕ) → 1 ≤ n → n ≤ 200000000000000000 → step (record { sheet = s; next = Credited k }) (codes "centavos=" ++ decimal n) ≡ Some (netted s k (pos n))
+plain_side : (d : Side) → plain (side_line d) ≡ true
+plain_side Charge = refl
+plain_side Credit = refl
+
+centavos_step : (s : Sheet) (k : ℕ) (d : Side) (n : ℕ) → 1 ≤ n → n ≤ 200000000000000000 → step (record { sheet = s; next = CentavosOf k d }) (codes "centavos=" ++ decimal n) ≡ Some (netted s k (net_of d n))
 unfolding step
-credit_step s k n least most = ap (λ o. onward o (λ m. Some (netted s k (pos m)))) (field_line (codes "centavos=") 1 200000000000000000 n least most (omega arith))
+centavos_step s k d n least most = ap (λ o. onward o (λ m. Some (netted s k (net_of d m)))) (field_line (codes "centavos=") 1 200000000000000000 n least most (omega arith))
 
 -- the three lines of an order
+sided_run : (d : Side) (n k low : ℕ) (s : Sheet) → low ≤ k → k < 32 → 1 ≤ n → n ≤ 200000000000000000 → Runs (at s low) (order_lines k (Some (record { side = d; centavos = n }))) (netted s k (net_of d n))
+sided_run d n k low s least seat some small =
+    more (plain_decimal k (omega arith)) (member_step s low k least seat) (more (plain_side d) (side_step s k d) (more (plain_decimal n (omega arith)) (centavos_step s k d n some small) none))
+
 order_run : (z : ℤ) (k low : ℕ) (s : Sheet) (o : Order) → low ≤ k → k < 32 → nat_abs z ≤ 200000000000000000 → order_of z ≡ Some o → Runs (at s low) (order_lines k (order_of z)) (netted s k z)
-unfolding step
-order_run (pos zero) k low s o least seat small e = let never : ◌≡◌ {A = ℕ} 0 1 = cc in absurd (omega arith)
-order_run (pos (suc n)) k low s o least seat small e =
-    more (plain_decimal k (omega arith)) (member_step s low k least seat) (more refl refl (more (plain_decimal (suc n) (omega (arith, ints))) (credit_step s k (suc n) (omega arith) (omega (arith, ints))) none))
-order_run (negsuc n) k low s o least seat small e =
-    more (plain_decimal k (omega arith)) (member_step s low k least seat) (more refl refl (more (plain_decimal (suc n) (omega (arith, ints))) (charge-step s k (suc n) (omega arith) (omega (arith, ints))) none))
+order_run (pos zero) k low s o least seat small e = none_some e
+order_run (pos (suc n)) k low s o least seat small e = sided_run Credit (suc n) k low s least seat (omega arith) (omega (arith, ints))
+order_run (negsuc n) k low s o least seat small e = sided_run Charge (suc n) k low s least seat (omega arith) (omega (arith, ints))
 
 -- nets put in from a place on
 abbrev fill : List ℤ → ℕ → List ℤ → List ℤ
@@ -117,9 +125,9 @@ orders_run (pos zero ∷ ws) k low s least room wide vacant paid =
     let rest = orders_run ws (k + 1) low s (omega arith) (omega arith) wide (λ j le. vacant j (omega arith)) (and_parts _ _ paid).1 in
     (rest.0, subst (λ zs. Runs (at s low) (all_lines (k + 1) ws) (at (nets_of s (fill zs (k + 1) ws)) rest.0)) (sym same) rest.1)
 orders_run (pos (suc n) ∷ ws) k low s least room wide vacant paid =
-    order_on (pos (suc n)) (Credit (suc n)) ws k low s refl least (omega arith) (payable_at (pos (suc n) ∷ ws) 0 paid) (orders_run ws (k + 1) (k + 1) (nets_of s (set s.nets k (pos (suc n)))) (omega arith) (omega arith) (length-set s.nets k (pos (suc n)) ∙ wide) (vacant_on s.nets k (pos (suc n)) vacant) (and_parts _ _ paid).1)
+    order_on (pos (suc n)) (record { side = Credit; centavos = suc n }) ws k low s refl least (omega arith) (payable_at (pos (suc n) ∷ ws) 0 paid) (orders_run ws (k + 1) (k + 1) (nets_of s (set s.nets k (pos (suc n)))) (omega arith) (omega arith) (length-set s.nets k (pos (suc n)) ∙ wide) (vacant_on s.nets k (pos (suc n)) vacant) (and_parts _ _ paid).1)
 orders_run (negsuc n ∷ ws) k low s least room wide vacant paid =
-    order_on (negsuc n) (Charge (suc n)) ws k low s refl least (omega arith) (payable_at (negsuc n ∷ ws) 0 paid) (orders_run ws (k + 1) (k + 1) (nets_of s (set s.nets k (negsuc n))) (omega arith) (omega arith) (length-set s.nets k (negsuc n) ∙ wide) (vacant_on s.nets k (negsuc n) vacant) (and_parts _ _ paid).1)
+    order_on (negsuc n) (record { side = Charge; centavos = suc n }) ws k low s refl least (omega arith) (payable_at (negsuc n ∷ ws) 0 paid) (orders_run ws (k + 1) (k + 1) (nets_of s (set s.nets k (negsuc n))) (omega arith) (omega arith) (length-set s.nets k (negsuc n) ∙ wide) (vacant_on s.nets k (negsuc n) vacant) (and_parts _ _ paid).1)
 
 -- what is filled in
 fill_sets : (ws zs : List ℤ) (k : ℕ) → fill zs k ws ≡ sets zs k ws

@@ -1,27 +1,20 @@
 -- A field is a key and the decimal digits of a number within limits, and nothing else is one.
 use Rattle.std.proofs.Common.{◌≡◌, ℕ, ◌^◌, ◌<◌, ◌≤◌, Bool, true, false, cond, not, ◌&&◌, eqb, ltb, leb, List, ◌++◌, length, get_or, Some, None, decimal, Option, sym, refl, ap, ◌∙◌, ⊎_elim, arith}
 use Rattle.std.proofs.lemmas.Fmt.{decimal-digits_value, decimal_nonempty, decimal_digit, first_decimal, digits_decimal, digits_value-decimal}
-use Rattle.std.proofs.lemmas.Str.Parse.{IsNumeralModel, numerals_by_value, tells_all_ascii_digits}
-use Rattle.std.proofs.lemmas.Bool.{and_parts, le-leb, leb-true, ltb-true, cases_lt}
+use Rattle.std.proofs.lemmas.Bool.{and_parts, lt-ltb, le-leb, leb-true, ltb-true, cases_lt}
 use Rattle.std.proofs.lemmas.Bool.Decides.{nat_tests}
 use Rattle.std.specs.Str.Parse.{digits_value}
 use Rattle.std.specs.Str.{all_ascii_digits}
 use Rattle.sheet.specs.Numerals.{value_up_to, trim, numeral, onward, after, field}
-use Rattle.sheet.proofs.Numerals.{after_some, after_key}
-
-pub some_same : {X : Type 0} {x y : X} → Some x ≡ Some y → x ≡ y
-some_same e = cc
+use Rattle.sheet.proofs.Numerals.{own, some_same, none_some, after_some, after_key}
 
 pub cond_some : {X : Type 0} (b : Bool) (o : Option X) (y : X) → cond b o None ≡ Some y → (b ≡ true) × (o ≡ Some y)
 cond_some true o y e = (refl, e)
-cond_some false o y e = let never : ◌≡◌ {A = ℕ} 0 1 = cc in absurd (omega arith)
+cond_some false o y e = none_some e
 
 pub onward_some : {X Y : Type 0} (o : Option X) (f : X → Option Y) (y : Y) → onward o f ≡ Some y → (x : X) × (o ≡ Some x) × (f x ≡ Some y)
-onward_some None f y e = let never : ◌≡◌ {A = ℕ} 0 1 = cc in absurd (omega arith)
+onward_some None f y e = none_some e
 onward_some (Some x) f y e = (x, refl, e)
-
-own : IsNumeralModel (λ ds. all_ascii_digits ds ≡ true) (digits_value 10)
-own = numerals_by_value (λ ds. all_ascii_digits ds ≡ true) tells_all_ascii_digits
 
 -- the numeral of a number is its decimal digits
 pub record Writes (low high n : ℕ) (ds : List ℕ) : Type 0 where
@@ -78,3 +71,7 @@ pub field_line : (key : List ℕ) (low high n : ℕ) → low ≤ n → n ≤ hig
 unfolding field
 field_line key low high n least most small =
     ap (λ r. onward r (numeral low high)) (after_key key (decimal n)) ∙ numeral-decimal low high n least most small
+
+-- the member of a number below 32
+pub seat : (n : ℕ) (o : Option ℕ) → n < 32 → o ≡ cond (ltb n 32) (Some n) None → o ≡ Some n
+seat n o few e = let lt = lt-ltb n 32 few in cc

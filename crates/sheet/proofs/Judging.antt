@@ -6,7 +6,7 @@ use Rattle.std.proofs.lemmas.Int.{ints}
 use Rattle.std.proofs.lemmas.Bool.{cases_Bool, cases_lt, eqb-true}
 use Rattle.std.specs.List.{flat_map}
 use Rattle.sheet.specs.declared.reading.Next.{Next}
-use Rattle.sheet.specs.declared.reading.Next.TheVariants.{Session, MemberOrEnd, Side, Charged, Credited, Nothing}
+use Rattle.sheet.specs.declared.reading.Next.TheVariants.{Session, MemberOrEnd, SideOf, CentavosOf, Nothing}
 use Rattle.sheet.specs.declared.reading.Reading.{Reading}
 use Rattle.sheet.specs.declared.reading.Sheet.{Sheet}
 use Rattle.sheet.specs.Laws.{TextOf, FrontDecides}
@@ -93,9 +93,8 @@ done : (next : Next) (s t : Sheet) (part : List ℕ) (n : ℕ) → Sound next s 
 done next s t (c ∷ part) n h e = ok_err e
 done Session s t [] n h e = ok_err e
 done (MemberOrEnd low) s t [] n h e = ok_err e
-done (Side m) s t [] n h e = ok_err e
-done (Charged m) s t [] n h e = ok_err e
-done (Credited m) s t [] n h e = ok_err e
+done (SideOf m) s t [] n h e = ok_err e
+done (CentavosOf m d) s t [] n h e = ok_err e
 done Nothing s t [] n h e = whole s t h (ok_same e)
 
 -- a good line is the next of those that were taken

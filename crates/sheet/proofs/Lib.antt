@@ -5,6 +5,5 @@ mod Judging
 mod Lines
 mod Nets
 mod Numerals
-mod Pages
 mod Steps
 mod Writes

@@ -1,6 +1,7 @@
 -- The lines of a sheet, one order after another.
-use Rattle.std.proofs.Common.{◌≡◌, ℕ, zero, suc, ◌+◌, ◌<◌, ◌≤◌, List, [], ◌∷◌, ◌++◌, length, get_or, drop, set, ℤ, pos, sym, refl, ap, ◌∙◌, append_assoc, arith}
+use Rattle.std.proofs.Common.{◌≡◌, ℕ, zero, suc, ◌+◌, ◌<◌, ◌≤◌, List, [], ◌∷◌, ◌++◌, length, get_or, drop, set, ℤ, pos, decimal, sym, refl, ap, ◌∙◌, append_assoc, arith}
 use Rattle.std.proofs.lemmas.List.{append-nil, at_drop_more, at_drop_all}
+use Rattle.std.proofs.lemmas.Fmt.{length-decimal-le}
 use Rattle.std.specs.List.{flat_map}
 use Rattle.sheet.specs.Orders.{order_of}
 use Rattle.sheet.specs.Text.{ended, order_lines, all_lines}
@@ -9,20 +10,19 @@ pub joined_append : (xs ys : List (List ℕ)) → flat_map ended (xs ++ ys) ≡ 
 joined_append [] ys = refl
 joined_append (x ∷ xs) ys = ap (λ zs. ended x ++ zs) (joined_append xs ys) ∙ sym (append_assoc (ended x) (flat_map ended xs) (flat_map ended ys))
 
--- the orders of the members from m on, of which the first is taken off
-pub rest_more : (nets : List ℤ) (m : ℕ) → m < length nets → flat_map ended (all_lines m (drop m nets)) ≡ flat_map ended (order_lines m (order_of (get_or nets m (pos 0)))) ++ flat_map ended (all_lines (m + 1) (drop (m + 1) nets))
+-- the order of the first of the members that are left goes over to the page
+pub net_on : (nets : List ℤ) (m : ℕ) (page page' whole : List ℕ) → m < length nets → page' ≡ page ++ flat_map ended (order_lines m (order_of (get_or nets m (pos 0)))) → page ++ flat_map ended (all_lines m (drop m nets)) ≡ whole → page' ++ flat_map ended (all_lines (m + 1) (drop (m + 1) nets)) ≡ whole
 unfolding all_lines
-rest_more nets m h =
-    at_drop_more (λ zs. flat_map ended (all_lines m zs)) nets m (pos 0) h
-    ∙ joined_append (order_lines m (order_of (get_or nets m (pos 0)))) (all_lines (m + 1) (drop (m + 1) nets))
+net_on nets m page page' whole h e w =
+    let own = flat_map ended (order_lines m (order_of (get_or nets m (pos 0)))) in
+    let rest = flat_map ended (all_lines (m + 1) (drop (m + 1) nets)) in
+    let more = at_drop_more (λ zs. flat_map ended (all_lines m zs)) nets m (pos 0) h ∙ joined_append (order_lines m (order_of (get_or nets m (pos 0)))) (all_lines (m + 1) (drop (m + 1) nets)) in
+    let regroup = append_assoc page own rest in
+    cc
 
 pub rest_all : (nets : List ℤ) (m : ℕ) → length nets ≤ m → flat_map ended (all_lines m (drop m nets)) ≡ []
 unfolding all_lines
 rest_all nets m h = at_drop_all (λ zs. flat_map ended (all_lines m zs)) nets m h
-
--- what is written goes over to the left
-pub shift : (p p' a rest whole : List ℕ) → p' ≡ p ++ a → p ++ (a ++ rest) ≡ whole → p' ++ rest ≡ whole
-shift p p' a rest whole e h = let regroup = append_assoc p a rest in cc
 
 -- the last line after the others
 pub finish : (p q s : List ℕ) (ls : List (List ℕ)) (last : List ℕ) → q ≡ p ++ ended last → p ++ [] ≡ s ++ flat_map ended ls → q ≡ s ++ flat_map ended (ls ++ (last ∷ []))
@@ -57,3 +57,13 @@ lines-set m (suc k) (y ∷ ys) z lt h =
     let there : m + 1 + k ≡ m + suc k = omega arith in
     let regroup = append_assoc (order_lines m (order_of y)) (all_lines (m + 1) ys) (order_lines (m + suc k) (order_of z)) in
     rw (more, there) (sym regroup)
+
+-- how long the numerals of a sheet are
+pub member_long : (m : ℕ) → m < 32 → length (decimal m) ≤ 2
+member_long m few = length-decimal-le 2 m (omega arith) (omega arith) (omega arith)
+
+pub session_long : (n : ℕ) → n ≤ 100000 → length (decimal n) ≤ 6
+session_long n few = length-decimal-le 6 n (omega arith) (omega arith) (omega arith)
+
+pub amount_long : (n : ℕ) → n ≤ 200000000000000000 → length (decimal n) ≤ 18
+amount_long n few = length-decimal-le 18 n (omega arith) (omega arith) (omega arith)

@@ -1,20 +1,23 @@
 -- What one line more makes of a sheet that is being read.
-use Rattle.std.proofs.Common.{◌≡◌, ℕ, zero, suc, ◌+◌, ◌-◌, ◌*◌, ◌^◌, ◌<◌, ◌≤◌, Bool, true, false, cond, List, [], ◌∷◌, ◌++◌, length, get_or, ℤ, pos, neg_ℤ, nat_abs, Some, None, codes, decimal, Option, sym, refl, ap, ◌∙◌, subst, append_assoc, arith}
+use Rattle.std.proofs.Common.{◌≡◌, ℕ, zero, suc, ◌+◌, ◌-◌, ◌*◌, ◌^◌, ◌<◌, ◌≤◌, Bool, true, false, cond, List, [], ◌∷◌, ◌++◌, length, get_or, ℤ, pos, nat_abs, Some, None, codes, decimal, Option, sym, refl, ap, ◌∙◌, subst, append_assoc, arith}
 use Rattle.std.proofs.lemmas.Fmt.{length-decimal-le}
 use Rattle.std.proofs.lemmas.List.{length-set, length-append, get_or-set_other, get_or_past}
 use Rattle.std.proofs.lemmas.Slice.Eq.{bytes_eq-Decides}
 use Rattle.std.proofs.lemmas.Int.{ints}
 use Rattle.std.specs.Str.{bytes_eq}
 use Rattle.sheet.specs.declared.reading.Next.{Next}
-use Rattle.sheet.specs.declared.reading.Next.TheVariants.{Session, MemberOrEnd, Side, Charged, Credited, Nothing}
+use Rattle.sheet.specs.declared.reading.Next.TheVariants.{Session, MemberOrEnd, SideOf, CentavosOf, Nothing}
 use Rattle.sheet.specs.declared.reading.Reading.{Reading}
 use Rattle.sheet.specs.declared.reading.Sheet.{Sheet}
-use Rattle.sheet.specs.Numerals.{field}
-use Rattle.sheet.specs.Orders.{order_of, orders, total, nil}
-use Rattle.sheet.specs.Reading.{step, step_at, side, at_end, member_or_end, netted, Seated}
-use Rattle.sheet.specs.Text.{order_lines, all_lines, lines}
+use Rattle.sheet.specs.Numerals.{field, onward}
+use Rattle.sheet.specs.declared.order.Side.{Side}
+use Rattle.sheet.specs.declared.order.Side.TheVariants.{Charge, Credit}
+use Rattle.sheet.specs.Orders.{order_of, net_of, orders, total, nil}
+use Rattle.sheet.specs.Reading.{step, step_at, side, at_end, member_or_end, netted}
+use Rattle.sheet.specs.Text.{side_line, order_lines, all_lines, lines}
 use Rattle.sheet.specs.Writing.{payable}
-use Rattle.sheet.proofs.Fields.{field_some, cond_some, onward_some, some_same}
+use Rattle.sheet.proofs.Fields.{field_some, cond_some, onward_some}
+use Rattle.sheet.proofs.Numerals.{some_same, none_some}
 use Rattle.sheet.proofs.Lines.{vacant_none, lines-set}
 use Rattle.sheet.proofs.Nets.{orders_le, payable-set, nil_is}
 
@@ -22,27 +25,32 @@ use Rattle.sheet.proofs.Nets.{orders_le, payable-set, nil_is}
 abbrev pub free : Next → ℕ
 free Session = 0
 free (MemberOrEnd low) = low
-free (Side m) = m
-free (Charged m) = m
-free (Credited m) = m
+free (SideOf m) = m
+free (CentavosOf m d) = m
 free Nothing = 32
+
+-- a member of a sheet
+abbrev pub Seated : Next → Type 0
+Seated Session = Unit {0}
+Seated (MemberOrEnd low) = Unit {0}
+Seated (SideOf m) = m < 32
+Seated (CentavosOf m d) = m < 32
+Seated Nothing = Unit {0}
 
 -- the session, once it was read
 abbrev pub Dated : Next → ℕ → Type 0
 Dated Session n = Unit {0}
 Dated (MemberOrEnd low) n = (1 ≤ n) × (n ≤ 100000)
-Dated (Side m) n = (1 ≤ n) × (n ≤ 100000)
-Dated (Charged m) n = (1 ≤ n) × (n ≤ 100000)
-Dated (Credited m) n = (1 ≤ n) × (n ≤ 100000)
+Dated (SideOf m) n = (1 ≤ n) × (n ≤ 100000)
+Dated (CentavosOf m d) n = (1 ≤ n) × (n ≤ 100000)
 Dated Nothing n = (1 ≤ n) × (n ≤ 100000)
 
 -- the sum of the nets, once the end was read
 abbrev pub Level : Next → List ℤ → Type 0
 Level Session zs = Unit {0}
 Level (MemberOrEnd low) zs = Unit {0}
-Level (Side m) zs = Unit {0}
-Level (Charged m) zs = Unit {0}
-Level (Credited m) zs = Unit {0}
+Level (SideOf m) zs = Unit {0}
+Level (CentavosOf m d) zs = Unit {0}
 Level Nothing zs = total zs ≡ pos 0
 
 -- what holds of a sheet that is being read
@@ -58,9 +66,8 @@ pub record Sound (next : Next) (s : Sheet) : Type 0 where
 abbrev pub left : Next → ℕ
 left Session = 1654
 left (MemberOrEnd low) = 51 * (32 - low) + 7
-left (Side m) = 51 * (31 - m) + 48
-left (Charged m) = 51 * (31 - m) + 35
-left (Credited m) = 51 * (31 - m) + 35
+left (SideOf m) = 51 * (31 - m) + 48
+left (CentavosOf m d) = 51 * (31 - m) + 35
 left Nothing = 0
 
 -- the lines of the whole orders that were read
@@ -71,9 +78,8 @@ sofar s = (codes "session=" ++ decimal s.session) ∷ all_lines 0 s.nets
 abbrev pub taken : Next → Sheet → List (List ℕ)
 taken Session s = []
 taken (MemberOrEnd low) s = sofar s
-taken (Side m) s = sofar s ++ ((codes "member=" ++ decimal m) ∷ [])
-taken (Charged m) s = sofar s ++ ((codes "member=" ++ decimal m) ∷ (codes "order=charge" ∷ []))
-taken (Credited m) s = sofar s ++ ((codes "member=" ++ decimal m) ∷ (codes "order=credit" ∷ []))
+taken (SideOf m) s = sofar s ++ ((codes "member=" ++ decimal m) ∷ [])
+taken (CentavosOf m d) s = sofar s ++ ((codes "member=" ++ decimal m) ∷ (side_line d ∷ []))
 taken Nothing s = lines s.session s.nets
 
 -- a good line
@@ -96,20 +102,26 @@ step_session s line r h e =
     let none = vacant_none 0 s.nets (λ k. h.vacant k (omega arith)) in
     subst (Stepped Session s line) (some_same p.2) (record { sound = record { wide = h.wide; paid = h.paid; vacant = h.vacant; dated = (f.1, f.2); seated = tt; level = tt }; took = ap (λ ls. (codes "session=" ++ decimal p.0) ∷ ls) none ∙ ap (λ l. l ∷ []) (sym f.0); bound = omega (arith, field_long (codes "session=") p.0 6 line (omega arith) (omega (arith, f.2)) (omega (arith, f.2)) f.0) })
 
--- the two lines that an order's side may be
-data Sided (m : ℕ) (line : List ℕ) (next : Next) : Type 0 where
-  a_charge : line ≡ codes "order=charge" → next ≡ Charged m → Sided m line next
-  a_credit : line ≡ codes "order=credit" → next ≡ Credited m → Sided m line next
+-- a line that tells a side is just that side's line
+side_some : (line : List ℕ) (d : Side) → side line ≡ Some d → line ≡ side_line d
+side_some line d e = by (bytes_eq line (side_line Charge)) (bytes_eq line (side_line Credit)) refl refl e where
+  by : (a b : Bool) → bytes_eq line (side_line Charge) ≡ a → bytes_eq line (side_line Credit) ≡ b → cond a (Some Charge) (cond b (Some Credit) None) ≡ Some d → line ≡ side_line d
+  by true b p q e = (bytes_eq-Decides line (side_line Charge)).0 p ∙ ap side_line (some_same e)
+  by false true p q e = (bytes_eq-Decides line (side_line Credit)).0 q ∙ ap side_line (some_same e)
+  by false false p q e = none_some e
 
-by_side : (m : ℕ) (line : List ℕ) (next : Next) (a b : Bool) → bytes_eq line (codes "order=charge") ≡ a → bytes_eq line (codes "order=credit") ≡ b → cond a (Some (Charged m)) (cond b (Some (Credited m)) None) ≡ Some next → Sided m line next
-by_side m line next true b p q e = a_charge ((bytes_eq-Decides line (codes "order=charge")).0 p) (sym (some_same e))
-by_side m line next false true p q e = a_credit ((bytes_eq-Decides line (codes "order=credit")).0 q) (sym (some_same e))
-by_side m line next false false p q e = let never : ◌≡◌ {A = ℕ} 0 1 = cc in absurd (omega arith)
+side_long : (d : Side) → length (side_line d) ≡ 12
+side_long Charge = refl
+side_long Credit = refl
 
-step-side : (m : ℕ) (s : Sheet) (line : List ℕ) (r : Reading) → Sound (Side m) s → step_at (Side m) s line ≡ Some r → Stepped (Side m) s line r
+step-side : (m : ℕ) (s : Sheet) (line : List ℕ) (r : Reading) → Sound (SideOf m) s → step_at (SideOf m) s line ≡ Some r → Stepped (SideOf m) s line r
 step-side m s line r h e =
-    let p = onward_some (side m line) (λ n. Some (record { sheet = s; next = n })) r e in
-    elim (by_side m line p.0 (bytes_eq line (codes "order=charge")) (bytes_eq line (codes "order=credit")) refl refl p.1) [ a_charge same next ↦ subst (Stepped (Side m) s line) (ap (λ (n : Next). record { sheet = s; next = n }) (sym next) ∙ some_same p.2) (record { sound = record { wide = h.wide; paid = h.paid; vacant = h.vacant; dated = h.dated; seated = h.seated; level = tt }; took = rw same (sym (append_assoc (sofar s) ((codes "member=" ++ decimal m) ∷ []) (codes "order=charge" ∷ []))); bound = omega (arith, ap length same) }) | a_credit same next ↦ subst (Stepped (Side m) s line) (ap (λ (n : Next). record { sheet = s; next = n }) (sym next) ∙ some_same p.2) (record { sound = record { wide = h.wide; paid = h.paid; vacant = h.vacant; dated = h.dated; seated = h.seated; level = tt }; took = rw same (sym (append_assoc (sofar s) ((codes "member=" ++ decimal m) ∷ []) (codes "order=credit" ∷ []))); bound = omega (arith, ap length same) }) ]
+    let p = onward_some (onward (side line) (λ d. Some (CentavosOf m d))) (λ (n : Next). Some (record { sheet = s; next = n })) r e in
+    let q = onward_some (side line) (λ d. Some (CentavosOf m d)) p.0 p.1 in
+    let d = q.0 in
+    let same = side_some line d q.1 in
+    let long = ap length same ∙ side_long d in
+    subst (Stepped (SideOf m) s line) (ap (λ (n : Next). record { sheet = s; next = n }) (some_same q.2) ∙ some_same p.2) (record { sound = record { wide = h.wide; paid = h.paid; vacant = h.vacant; dated = h.dated; seated = h.seated; level = tt }; took = sym (append_assoc (sofar s) ((codes "member=" ++ decimal m) ∷ []) (side_line d ∷ [])) ∙ ap (λ l. taken (SideOf m) s ++ (l ∷ [])) (sym same); bound = omega arith })
 
 -- one net more, where the sheet had none from its member on
 module _ (m : ℕ) (s : Sheet) (z : ℤ) (seat : m < 32) (wide : length s.nets ≡ 32) (paid : payable s.nets ≡ true) (vacant : (k : ℕ) → m ≤ k → get_or s.nets k (pos 0) ≡ pos 0) (dated : (1 ≤ s.session) × (s.session ≤ 100000)) (small : nat_abs z ≤ 200000000000000000) where
@@ -124,32 +136,26 @@ module _ (m : ℕ) (s : Sheet) (z : ℤ) (seat : m < 32) (wide : length s.nets �
       let regroup = append_assoc (all_lines 0 s.nets) ((codes "member=" ++ decimal m) ∷ (side ∷ [])) (line ∷ []) in
       rw (more, here, e) (ap (λ ls. (codes "session=" ++ decimal s.session) ∷ ls) (sym regroup))
 
-charge-lines : (m n : ℕ) (line : List ℕ) → 1 ≤ n → line ≡ codes "centavos=" ++ decimal n → order_lines m (order_of (neg_ℤ (pos n))) ≡ (codes "member=" ++ decimal m) ∷ (codes "order=charge" ∷ (line ∷ []))
-charge-lines m zero line some e = absurd (omega arith)
-charge-lines m (suc n) line some e = rw e
+net_lines : (m : ℕ) (d : Side) (n : ℕ) (line : List ℕ) → 1 ≤ n → line ≡ codes "centavos=" ++ decimal n → order_lines m (order_of (net_of d n)) ≡ (codes "member=" ++ decimal m) ∷ (side_line d ∷ (line ∷ []))
+net_lines m d zero line some e = absurd (omega arith)
+net_lines m Charge (suc n) line some e = rw e
+net_lines m Credit (suc n) line some e = rw e
 
-credit_lines : (m n : ℕ) (line : List ℕ) → 1 ≤ n → line ≡ codes "centavos=" ++ decimal n → order_lines m (order_of (pos n)) ≡ (codes "member=" ++ decimal m) ∷ (codes "order=credit" ∷ (line ∷ []))
-credit_lines m zero line some e = absurd (omega arith)
-credit_lines m (suc n) line some e = rw e
+net_small : (d : Side) (n : ℕ) → nat_abs (net_of d n) ≡ n
+net_small Charge n = omega (arith, ints)
+net_small Credit n = refl
 
-step_charged : (m : ℕ) (s : Sheet) (line : List ℕ) (r : Reading) → Sound (Charged m) s → step_at (Charged m) s line ≡ Some r → Stepped (Charged m) s line r
-step_charged m s line r h e =
-    let p = onward_some (field (codes "centavos=") 1 200000000000000000 line) (λ n. Some (netted s m (neg_ℤ (pos n)))) r e in
+step_centavos : (m : ℕ) (d : Side) (s : Sheet) (line : List ℕ) (r : Reading) → Sound (CentavosOf m d) s → step_at (CentavosOf m d) s line ≡ Some r → Stepped (CentavosOf m d) s line r
+step_centavos m d s line r h e =
+    let p = onward_some (field (codes "centavos=") 1 200000000000000000 line) (λ n. Some (netted s m (net_of d n))) r e in
     let n = p.0 in
+    let z = net_of d n in
     let f = field_some (codes "centavos=") 1 200000000000000000 line n (omega arith) p.1 in
-    let small : nat_abs (neg_ℤ (pos n)) ≤ 200000000000000000 = omega (arith, ints, f.2) in
-    subst (Stepped (Charged m) s line) (some_same p.2) (record { sound = netted_sound m s (neg_ℤ (pos n)) h.seated h.wide h.paid h.vacant h.dated small; took = netted_took m s (neg_ℤ (pos n)) h.seated h.wide h.paid h.vacant h.dated small (codes "order=charge") line (charge-lines m n line f.1 f.0); bound = omega (arith, field_long (codes "centavos=") n 18 line (omega arith) (omega (arith, f.2)) (omega (arith, f.2)) f.0) })
-
-step_credited : (m : ℕ) (s : Sheet) (line : List ℕ) (r : Reading) → Sound (Credited m) s → step_at (Credited m) s line ≡ Some r → Stepped (Credited m) s line r
-step_credited m s line r h e =
-    let p = onward_some (field (codes "centavos=") 1 200000000000000000 line) (λ n. Some (netted s m (pos n))) r e in
-    let n = p.0 in
-    let f = field_some (codes "centavos=") 1 200000000000000000 line n (omega arith) p.1 in
-    let small : nat_abs (pos n) ≤ 200000000000000000 = omega (arith, ints, f.2) in
-    subst (Stepped (Credited m) s line) (some_same p.2) (record { sound = netted_sound m s (pos n) h.seated h.wide h.paid h.vacant h.dated small; took = netted_took m s (pos n) h.seated h.wide h.paid h.vacant h.dated small (codes "order=credit") line (credit_lines m n line f.1 f.0); bound = omega (arith, field_long (codes "centavos=") n 18 line (omega arith) (omega (arith, f.2)) (omega (arith, f.2)) f.0) })
+    let small : nat_abs z ≤ 200000000000000000 = omega (arith, net_small d n, f.2) in
+    subst (Stepped (CentavosOf m d) s line) (some_same p.2) (record { sound = netted_sound m s z h.seated h.wide h.paid h.vacant h.dated small; took = netted_took m s z h.seated h.wide h.paid h.vacant h.dated small (side_line d) line (net_lines m d n line f.1 f.0); bound = omega (arith, field_long (codes "centavos=") n 18 line (omega arith) (omega (arith, f.2)) (omega (arith, f.2)) f.0) })
 
 -- an order's member, and the end
-to_member : (low m : ℕ) (s : Sheet) (line : List ℕ) → Sound (MemberOrEnd low) s → field (codes "member=") low 31 line ≡ Some m → Stepped (MemberOrEnd low) s line (record { sheet = s; next = Side m })
+to_member : (low m : ℕ) (s : Sheet) (line : List ℕ) → Sound (MemberOrEnd low) s → field (codes "member=") low 31 line ≡ Some m → Stepped (MemberOrEnd low) s line (record { sheet = s; next = SideOf m })
 to_member low m s line h e =
     let f = field_some (codes "member=") low 31 line m (omega arith) e in
     let least = f.1 in
@@ -181,10 +187,9 @@ step_member low s line r h e =
 step_at-Stepped : (next : Next) (s : Sheet) (line : List ℕ) (r : Reading) → Sound next s → step_at next s line ≡ Some r → Stepped next s line r
 step_at-Stepped Session s line r h e = step_session s line r h e
 step_at-Stepped (MemberOrEnd low) s line r h e = step_member low s line r h e
-step_at-Stepped (Side m) s line r h e = step-side m s line r h e
-step_at-Stepped (Charged m) s line r h e = step_charged m s line r h e
-step_at-Stepped (Credited m) s line r h e = step_credited m s line r h e
-step_at-Stepped Nothing s line r h e = let never : ◌≡◌ {A = ℕ} 0 1 = cc in absurd (omega arith)
+step_at-Stepped (SideOf m) s line r h e = step-side m s line r h e
+step_at-Stepped (CentavosOf m d) s line r h e = step_centavos m d s line r h e
+step_at-Stepped Nothing s line r h e = none_some e
 
 -- a good line keeps what holds, is the next of the lines, and leaves less room
 pub stepped : (q : Reading) (line : List ℕ) (r : Reading) → Sound q.next q.sheet → step q line ≡ Some r → Stepped q.next q.sheet line r

@@ -1,7 +1,6 @@
 pub mod Laws
 pub mod Numerals
 pub mod Orders
-pub mod Pages
 pub mod Reading
 pub mod Report
 pub mod Text

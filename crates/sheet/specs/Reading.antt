@@ -1,23 +1,26 @@
 -- How a sheet is read: each line by what was read before it.
-use Rattle.std.specs.Prelude.{ℕ, ◌+◌, ◌<◌, Bool, true, false, cond, List, [], ◌∷◌, ◌++◌, replicate, ℤ, pos, neg_ℤ, Some, None, Ok, Err, codes, Option, Result, ◌==◌, slice_set}
+use Rattle.std.specs.Prelude.{ℕ, ◌+◌, Bool, true, false, cond, List, [], ◌∷◌, ◌++◌, replicate, ℤ, pos, Some, None, Ok, Err, codes, Option, Result, ◌==◌, slice_set}
 use Rattle.refusal.specs.declared.Fault.{Fault}
 use Rattle.refusal.specs.declared.Refusal.TheVariants.{BadSheet}
 use Rattle.refusal.specs.Refusals.{bare, on_line}
 use Rattle.std.specs.Str.{bytes_eq}
 use Rattle.sheet.specs.declared.reading.Next.{Next}
-use Rattle.sheet.specs.declared.reading.Next.TheVariants.{Session, MemberOrEnd, Side, Charged, Credited, Nothing}
+use Rattle.sheet.specs.declared.reading.Next.TheVariants.{Session, MemberOrEnd, SideOf, CentavosOf, Nothing}
 use Rattle.sheet.specs.declared.reading.Reading.{Reading}
 use Rattle.sheet.specs.declared.reading.Sheet.{Sheet}
 use Rattle.sheet.specs.Numerals.{field, onward}
-use Rattle.sheet.specs.Orders.{orders, total, nil}
+use Rattle.sheet.specs.declared.order.Side.{Side}
+use Rattle.sheet.specs.declared.order.Side.TheVariants.{Charge, Credit}
+use Rattle.sheet.specs.Orders.{net_of, orders, total, nil}
+use Rattle.sheet.specs.Text.{side_line}
 
 -- before the first line
 unfoldable pub start : Reading
 start = record { sheet = record { session = 0; nets = replicate 32 (pos 0) }; next = Session }
 
--- the line of an order's side
-abbrev pub side : ℕ → List ℕ → Option Next
-side m line = cond (bytes_eq line (codes "order=charge")) (Some (Charged m)) (cond (bytes_eq line (codes "order=credit")) (Some (Credited m)) None)
+-- the side that a line tells
+abbrev pub side : List ℕ → Option Side
+side line = cond (bytes_eq line (side_line Charge)) (Some Charge) (cond (bytes_eq line (side_line Credit)) (Some Credit) None)
 
 -- the last line: the count of the orders, whose charges and credits have the same sum
 abbrev pub at_end : List ℤ → List ℕ → Option Next
@@ -25,7 +28,7 @@ at_end nets line = onward (field (codes "end=") (orders nets) (orders nets) line
 
 -- the next order's member, or the last line
 abbrev pub member_or_end : Option ℕ → Option Next → Option Next
-member_or_end (Some m) end = Some (Side m)
+member_or_end (Some m) end = Some (SideOf m)
 member_or_end None end = end
 
 -- what the next line has to be, of a sheet that stays as it is
@@ -40,9 +43,8 @@ netted s m z = record { sheet = record { session = s.session; nets = slice_set s
 abbrev pub step_at : Next → Sheet → List ℕ → Option Reading
 step_at Session s line = onward (field (codes "session=") 1 100000 line) (λ n. Some (record { sheet = record { session = n; nets = s.nets }; next = MemberOrEnd 0 }))
 step_at (MemberOrEnd low) s line = go_on s (member_or_end (field (codes "member=") low 31 line) (at_end s.nets line))
-step_at (Side m) s line = go_on s (side m line)
-step_at (Charged m) s line = onward (field (codes "centavos=") 1 200000000000000000 line) (λ n. Some (netted s m (neg_ℤ (pos n))))
-step_at (Credited m) s line = onward (field (codes "centavos=") 1 200000000000000000 line) (λ n. Some (netted s m (pos n)))
+step_at (SideOf m) s line = go_on s (onward (side line) (λ d. Some (CentavosOf m d)))
+step_at (CentavosOf m d) s line = onward (field (codes "centavos=") 1 200000000000000000 line) (λ n. Some (netted s m (net_of d n)))
 step_at Nothing s line = None
 
 unfoldable pub step : Reading → List ℕ → Option Reading
@@ -53,9 +55,8 @@ abbrev pub complete : Next → Bool
 complete Nothing = true
 complete Session = false
 complete (MemberOrEnd low) = false
-complete (Side m) = false
-complete (Charged m) = false
-complete (Credited m) = false
+complete (SideOf m) = false
+complete (CentavosOf m d) = false
 
 -- a bad line
 abbrev pub bad_line : ℕ → Result Sheet Fault
@@ -79,12 +80,3 @@ read_on r part n (b ∷ bs) = cond (b == 10) (judged (step r part) n (λ r'. rea
 -- what the reader answers
 abbrev pub reads : List ℕ → Result Sheet Fault
 reads bytes = read_on start [] 1 bytes
-
--- a member of a sheet
-abbrev pub Seated : Next → Type 0
-Seated Session = Unit {0}
-Seated (MemberOrEnd low) = Unit {0}
-Seated (Side m) = m < 32
-Seated (Charged m) = m < 32
-Seated (Credited m) = m < 32
-Seated Nothing = Unit {0}

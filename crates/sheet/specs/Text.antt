@@ -2,22 +2,23 @@
 use Rattle.std.specs.Prelude.{ℕ, ◌+◌, List, [], ◌∷◌, ◌++◌, ℤ, Some, None, codes, decimal, Option}
 use Rattle.std.specs.List.{flat_map}
 use Rattle.sheet.specs.declared.order.Order.{Order}
-use Rattle.sheet.specs.declared.order.Order.TheVariants.{Charge, Credit}
-use Rattle.sheet.specs.Orders.{amount, order_of, orders}
+use Rattle.sheet.specs.declared.order.Side.{Side}
+use Rattle.sheet.specs.declared.order.Side.TheVariants.{Charge, Credit}
+use Rattle.sheet.specs.Orders.{order_of, orders}
 
 -- a line and the LF that ends it
 abbrev pub ended : List ℕ → List ℕ
 ended line = line ++ (10 ∷ [])
 
 -- the line of an order's side
-abbrev pub side_line : Order → List ℕ
-side_line (Charge n) = codes "order=charge"
-side_line (Credit n) = codes "order=credit"
+abbrev pub side_line : Side → List ℕ
+side_line Charge = codes "order=charge"
+side_line Credit = codes "order=credit"
 
 -- the three lines of an order of member m
 abbrev pub order_lines : ℕ → Option Order → List (List ℕ)
 order_lines m None = []
-order_lines m (Some o) = (codes "member=" ++ decimal m) ∷ (side_line o ∷ ((codes "centavos=" ++ decimal (amount o)) ∷ []))
+order_lines m (Some o) = (codes "member=" ++ decimal m) ∷ (side_line o.side ∷ ((codes "centavos=" ++ decimal o.centavos) ∷ []))
 
 -- the lines of the orders of members m, m + 1 and on
 unfoldable pub all_lines : ℕ → List ℤ → List (List ℕ)

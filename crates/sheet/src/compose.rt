@@ -1,108 +1,62 @@
 // Composes the text of a sheet on a page.
-ghost use Rattle.std.specs.Prelude.{◌≡◌, ◌+◌, ◌≤◌, true, [], ◌∷◌, ◌++◌, length, Some, codes, decimal, unsigned_abs};
+ghost use Rattle.std.specs.Prelude.{◌≡◌, ◌+◌, ◌≤◌, true, ◌++◌, length, decimal, unsigned_abs};
 ghost use Rattle.std.specs.List.{flat_map};
-ghost use Rattle.sheet.specs.Orders.{order_of, amount};
-ghost use Rattle.sheet.specs.Pages.{on_page, Adds};
-ghost use Rattle.sheet.specs.Text.{ended, side_line, order_lines, text};
+ghost use Rattle.arrayvec.specs.ArrayString.{array_string_len};
+ghost use Rattle.sheet.specs.Orders.{order_of};
+ghost use Rattle.sheet.specs.Text.{ended, order_lines, text};
 ghost use Rattle.sheet.specs.Writing.{payable};
 
-use crate::order::{Order, count_orders, order_of};
-use crate::page::Page;
+use crate::order::{count_orders, order_of};
+use arrayvec::ArrayString;
+use itoa::Buffer;
+use members::Member;
 
-// The line of an order's side.
-fn side_line(order: Order) -> &'static [u8]
-    ensures line { result.now ≡ side_line order }
-    ensures len { length result.now ≡ 12 }
+// Room for the text of one sheet.
+pub(crate) type Page = ArrayString<2048>;
+
+// Adds a line of a key and a number.
+fn add_line(page: &mut Page, key: &str, n: u64)
+    requires { array_string_len page.old + (length key.now + length (decimal n) + 1) ≤ 2048 }
+    ensures text { page.new.bytes ≡ page.old.bytes ++ ended (key.now ++ decimal n) }
+    ensures len { array_string_len page.new ≡ array_string_len page.old + (length key.now + length (decimal n) + 1) }
 {
-    match order {
-        Order::Charge(_) => b"order=charge",
-        Order::Credit(_) => b"order=credit",
-    }
+    page.push_str(key);
+    page.push_str(Buffer::new().format(n));
+    page.push_str("\n");
 }
 
-impl Page {
-    fn blank() -> Page
-        ensures len { result.len ≡ 0 }
-        ensures text { on_page result ≡ [] }
-    {
-        Page {
-            bytes: [0; 2048],
-            len: 0,
-        }
-    }
-
-    // Adds some bytes to the text.
-    fn put(&mut self, part: &[u8])
-        requires { self.old.len + length part.now ≤ 2048 }
-        ensures { Adds self.old part.now self.new }
-    {
-        for b in part {
-            self.bytes[self.len] = *b;
-            self.len += 1;
-        }
-    }
-
-    // Adds a number in decimal digits.
-    fn number(&mut self, n: u64)
-        requires { self.old.len + length (decimal n) ≤ 2048 }
-        ensures { Adds self.old (decimal n) self.new }
-    {
-        if n >= 10 {
-            self.number(n / 10);
-        }
-        self.put(&[b'0' + (n % 10) as u8]);
-    }
-
-    // Adds a line of a key and a number.
-    fn line(&mut self, key: &[u8], n: u64)
-        requires { self.old.len + (length key.now + length (decimal n) + 1) ≤ 2048 }
-        ensures { Adds self.old (ended (key.now ++ decimal n)) self.new }
-    {
-        self.put(key);
-        self.number(n);
-        self.put(b"\n");
-    }
-
-    // Adds the three lines of a member's order.
-    fn order(&mut self, member: usize, order: Order)
-        requires room { self.old.len + 51 ≤ 2048 }
-        requires member { member ≤ 31 }
-        requires order { amount order ≤ 200000000000000000 }
-        ensures text { Adds self.old (flat_map ended (order_lines member (Some order))) self.new }
-        ensures bound { self.new.len ≤ self.old.len + 51 }
-    {
-        self.line(b"member=", member as u64);
-        self.put(side_line(order));
-        self.put(b"\n");
-        self.line(b"centavos=", order.centavos());
-    }
-
-    // Adds the lines of the order that a member's net makes, if it makes one.
-    fn net(&mut self, member: usize, net: i64)
-        requires room { self.old.len + 51 ≤ 2048 }
-        requires member { member ≤ 31 }
-        requires net { unsigned_abs net ≤ 200000000000000000 }
-        ensures text { Adds self.old (flat_map ended (order_lines member (order_of net))) self.new }
-        ensures bound { self.new.len ≤ self.old.len + 51 }
-    {
-        if let Some(order) = order_of(net) {
-            self.order(member, order);
-        }
-    }
+// Adds the three lines of the order that a member's net makes, if it makes one.
+#[tactic(auto, using(crate::proofs::Lines::member_long, crate::proofs::Lines::amount_long))]
+fn add_net(page: &mut Page, member: Member, net: i64)
+    requires room { array_string_len page.old + 51 ≤ 2048 }
+    requires net { unsigned_abs net ≤ 200000000000000000 }
+    ensures text { page.new.bytes ≡ page.old.bytes ++ flat_map ended (order_lines member (order_of net)) }
+    ensures bound { array_string_len page.new ≤ array_string_len page.old + 51 }
+{
+    let Some(order) = order_of(net) else {
+        return;
+    };
+    add_line(page, "member=", member.index() as u64);
+    page.push_str(order.side.line());
+    page.push_str("\n");
+    add_line(page, "centavos=", order.centavos);
 }
 
 // The text of a sheet of that session and those nets.
+#[tactic(auto, using(crate::proofs::Lines::session_long))]
 pub(crate) fn compose(session: u64, nets: &[i64]) -> Page
     requires session { session ≤ 100000 }
     requires few { length nets.now ≤ 32 }
     requires nets { payable nets.now ≡ true }
-    ensures { on_page result ≡ text session nets.now }
+    ensures { result.bytes ≡ text session nets.now }
 {
-    let mut page = Page::blank();
-    page.line(b"session=", session);
-    for (member, net) in nets.iter().enumerate() {
-        page.net(member, *net);
+    let mut page = Page::new();
+    add_line(&mut page, "session=", session);
+    for (number, net) in nets.iter().enumerate() {
+        if let Some(member) = Member::new(number) {
+            add_net(&mut page, member, *net);
+        }
     }
-    page.line(b"end=", count_orders(nets) as u64);
+    add_line(&mut page, "end=", count_orders(nets) as u64);
     page
 }

@@ -3,7 +3,6 @@
 
 mod compose;
 pub mod order;
-mod page;
 pub mod reader;
 pub mod reading;
 pub mod report;

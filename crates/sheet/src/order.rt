@@ -1,37 +1,50 @@
 // An order of a member, and what a list of nets orders.
 ghost use Rattle.std.specs.Prelude.{◌≡◌, ◌≤◌, length};
-ghost use Rattle.sheet.specs.Orders.{amount, order_of, charge, orders, charges, total, nil};
+ghost use Rattle.sheet.specs.Orders.{order_of, moved, orders, sum_of, total, nil};
+ghost use Rattle.sheet.specs.Text.{side_line};
 
-// What a member owes the house, or the house the member, in centavos.
+use std::cmp::Ordering;
+
+// A charge is what a member owes the house, and a credit what the house owes the member.
 #[derive(Clone, Copy, Debug, PartialEq, Eq)]
-pub enum Order {
-    Charge(u64),
-    Credit(u64),
+pub enum Side {
+    Charge,
+    Credit,
 }
 
-impl Order {
-    // The amount that it moves.
-    pub fn centavos(self) -> u64
-        ensures { result ≡ amount self }
+impl Side {
+    // The line of a sheet that tells it.
+    pub(crate) fn line(self) -> &'static str
+        ensures line { result.now ≡ side_line self }
+        ensures len { length result.now ≡ 12 }
     {
         match self {
-            Order::Charge(centavos) => centavos,
-            Order::Credit(centavos) => centavos,
+            Side::Charge => "order=charge",
+            Side::Credit => "order=credit",
         }
     }
+}
+
+// What a member's net comes to.
+#[derive(Clone, Copy, Debug, PartialEq, Eq)]
+pub struct Order {
+    pub side: Side,
+    pub centavos: u64,
 }
 
 // The order of a net: a charge where it is negative, a credit where it is positive.
 pub fn order_of(net: i64) -> Option<Order>
     ensures { result ≡ order_of net }
 {
-    if net < 0 {
-        Some(Order::Charge(net.unsigned_abs()))
-    } else if net > 0 {
-        Some(Order::Credit(net.unsigned_abs()))
-    } else {
-        None
-    }
+    let side = match net.cmp(&0) {
+        Ordering::Less => Side::Charge,
+        Ordering::Equal => return None,
+        Ordering::Greater => Side::Credit,
+    };
+    Some(Order {
+        side,
+        centavos: net.unsigned_abs(),
+    })
 }
 
 // How many orders the nets make.
@@ -39,50 +52,30 @@ pub(crate) fn count_orders(nets: &[i64]) -> usize
     ensures answer { result ≡ orders nets.now }
     ensures bound { result ≤ length nets.now }
 {
-    let mut count = 0;
-    for net in nets {
-        if order_of(*net).is_some() {
-            count += 1;
-        }
-    }
-    count
+    nets.iter().filter(|net| order_of(**net).is_some()).count()
 }
 
-// The centavos that a net charges.
-fn charge_of(net: i64) -> u64
-    ensures { result ≡ charge (order_of net) }
+// The centavos that a net moves on that side.
+fn moved(side: Side, net: i64) -> u64
+    ensures { result ≡ moved side (order_of net) }
 {
     match order_of(net) {
-        Some(Order::Charge(centavos)) => centavos,
+        Some(order) if order.side == side => order.centavos,
         _ => 0,
     }
 }
 
-// What the charges add up to.
-pub(crate) fn sum_charges(nets: &[i64]) -> u128
-    ensures { result ≡ charges nets.now }
+// What the orders of that side add up to.
+pub(crate) fn sum_of(side: Side, nets: &[i64]) -> u128
+    ensures { result ≡ sum_of side nets.now }
 {
-    let mut sum = 0;
-    for net in nets {
-        sum += u128::from(charge_of(*net));
-    }
-    sum
-}
-
-// What the nets add up to.
-pub(crate) fn sum_nets(nets: &[i64]) -> i128
-    ensures { result ≡ total nets.now }
-{
-    let mut sum = 0;
-    for net in nets {
-        sum += i128::from(*net);
-    }
-    sum
+    nets.iter().map(|net| u128::from(moved(side, *net))).sum()
 }
 
 // Whether charges and credits have the same sum.
+#[tactic(auto, using(crate::proofs::Nets::nil_total))]
 pub(crate) fn balanced(nets: &[i64]) -> bool
     ensures { result ≡ nil (total nets.now) }
 {
-    sum_nets(nets) == 0
+    sum_of(Side::Charge, nets) == sum_of(Side::Credit, nets)
 }

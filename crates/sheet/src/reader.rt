@@ -1,32 +1,26 @@
 // Reads a cash sheet from any bytes.
-ghost use Rattle.std.specs.Prelude.{◌≡◌};
+ghost use Rattle.std.specs.Prelude.{◌≡◌, []};
+ghost use Rattle.refusal.specs.declared.Refusal.TheVariants.{BadSheet};
+ghost use Rattle.refusal.specs.Refusals.{bare, on_line};
 ghost use Rattle.sheet.specs.Laws.{Accepts, FrontDecides};
-ghost use Rattle.sheet.specs.Reading.{complete, bad_line, finished, reads};
+ghost use Rattle.sheet.specs.Reading.{finished, reads};
 
 use crate::reading::{Next, Reading, Sheet};
 use refusal::{Fault, Refusal};
 
-// Whether no more lines are wanted.
-fn is_complete(next: Next) -> bool
-    ensures { result ≡ complete next }
+fn bad_line(line: u32) -> Fault
+    ensures { result ≡ on_line line (bare BadSheet) }
 {
-    matches!(next, Next::Nothing)
+    Fault::from(Refusal::BadSheet).at_line(line)
 }
 
-fn bad_line(line: u32) -> Result<Sheet, Fault>
-    ensures { result ≡ bad_line line }
+// The end of the bytes, where line `line` would begin.
+fn finish(reading: Reading, line: u32) -> Result<Sheet, Fault>
+    ensures { result ≡ finished reading.next reading.sheet [] line }
 {
-    Err(Fault::from(Refusal::BadSheet).at_line(line))
-}
-
-// The end of the bytes, after a part of a line that has no LF.
-fn finish(reading: Reading, part: &[u8], line: u32) -> Result<Sheet, Fault>
-    ensures { result ≡ finished reading.next reading.sheet part.now line }
-{
-    if part.is_empty() && is_complete(reading.next) {
-        Ok(reading.sheet)
-    } else {
-        bad_line(line)
+    match reading.next {
+        Next::Nothing => Ok(reading.sheet),
+        _ => Err(bad_line(line)),
     }
 }
 
@@ -38,16 +32,15 @@ pub fn read(bytes: &[u8]) -> Result<Sheet, Fault>
 {
     let mut reading = Reading::start();
     let mut line = 1;
-    let mut start = 0;
-    for (i, b) in bytes.iter().enumerate() {
-        if *b == b'\n' {
-            let Some(next) = reading.take(&bytes[start..i]) else {
-                return bad_line(line);
-            };
-            reading = next;
-            line += 1;
-            start = i + 1;
-        }
+    for part in bytes.split_inclusive(|b| *b == b'\n') {
+        let Some(text) = part.strip_suffix(b"\n") else {
+            return Err(bad_line(line));
+        };
+        let Some(next) = reading.take(text) else {
+            return Err(bad_line(line));
+        };
+        reading = next;
+        line += 1;
     }
-    finish(reading, &bytes[start..], line)
+    finish(reading, line)
 }

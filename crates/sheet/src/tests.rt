@@ -1,5 +1,5 @@
 // The worked example: session 1, a credit of 300 to member 0 and a charge of 300 to member 1.
-use crate::order::{Order, order_of};
+use crate::order::{Order, Side, order_of};
 use crate::reader::read;
 use crate::report::report;
 use crate::writer::write;
@@ -22,8 +22,16 @@ fn the_example_is_written(rt: HostRuntime) -> Result<(), Fail> {
 fn the_example_is_read_and_reported(rt: HostRuntime) -> Result<(), Fail> {
     let sheet = read(EXAMPLE)?;
     assert_eq!(rt; sheet.session, 1);
-    assert_eq!(rt; order_of(sheet.nets[0]), Some(Order::Credit(300)));
-    assert_eq!(rt; order_of(sheet.nets[1]), Some(Order::Charge(300)));
+    let credit = Order {
+        side: Side::Credit,
+        centavos: 300,
+    };
+    let charge = Order {
+        side: Side::Charge,
+        centavos: 300,
+    };
+    assert_eq!(rt; order_of(sheet.nets[0]), Some(credit));
+    assert_eq!(rt; order_of(sheet.nets[1]), Some(charge));
     assert_eq!(rt; order_of(sheet.nets[2]), None);
     let told = report(rt.alloc(), EXAMPLE)?;
     assert_eq!(rt; told.as_str(), "orders=2\ncharges=300\n");

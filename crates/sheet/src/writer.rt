@@ -1,5 +1,6 @@
 // Writes a cash sheet into a buffer.
 ghost use Rattle.std.specs.Prelude.{◌≡◌, length, take, IfOk, Ok, nat_le, unsigned_abs};
+ghost use Rattle.arrayvec.specs.ArrayString.{array_string_len};
 ghost use Rattle.refusal.specs.Checks.{raised, check};
 ghost use Rattle.refusal.specs.declared.Refusal.TheVariants.{ListLength};
 ghost use Rattle.sheet.specs.Laws.{sheet_of};
@@ -7,21 +8,15 @@ ghost use Rattle.sheet.specs.Reading.{reads};
 ghost use Rattle.sheet.specs.Text.{text};
 ghost use Rattle.sheet.specs.Writing.{payable, sendable, writing, filled};
 
-use crate::compose::compose;
+use crate::compose::{Page, compose};
 use crate::order::balanced;
-use crate::page::Page;
 use refusal::{Fault, Refusal, demand, inside};
 
 // Whether a sheet can hold each of the nets.
 fn payable(nets: &[i64]) -> bool
     ensures { result ≡ payable nets.now }
 {
-    for net in nets {
-        if !inside(-200_000_000_000_000_000, 200_000_000_000_000_000, *net) {
-            return false;
-        }
-    }
-    true
+    nets.iter().all(|net| inside(-200_000_000_000_000_000, 200_000_000_000_000_000, *net))
 }
 
 // A sheet can hold the session and the nets, and its charges and credits have the same sum.
@@ -36,9 +31,9 @@ fn check_figures(session: i64, nets: &[i64]) -> Result<(), Refusal>
 
 // The buffer has room for the page.
 fn check_room(page: &Page, buffer: &[u8]) -> Result<(), Refusal>
-    ensures { result ≡ check (nat_le page.now.len (length buffer.now)) ListLength }
+    ensures { result ≡ check (nat_le (array_string_len page.now) (length buffer.now)) ListLength }
 {
-    demand(page.len <= buffer.len(), Refusal::ListLength)
+    demand(page.len() <= buffer.len(), Refusal::ListLength)
 }
 
 // Writes the sheet of a session and one net for each member from 0 on. It answers how many bytes it wrote.
@@ -50,6 +45,7 @@ pub fn write(session: i64, nets: &[i64], buffer: &mut [u8]) -> Result<usize, Fau
     check_figures(session, nets)?;
     let page = compose(session as u64, nets);
     check_room(&page, buffer)?;
-    buffer[0..page.len].copy_from_slice(&page.bytes[0..page.len]);
-    Ok(page.len)
+    let len = page.len();
+    buffer[..len].copy_from_slice(page.as_bytes());
+    Ok(len)
 }

@@ -8,9 +8,10 @@ use refusal::Fault;
 use sheet::report::report;
 use sheet::writer::write;
 use std::alloc::Global;
+use std::fmt::{self, Display};
 use std::io::{BufRead, BufReader};
 
-// The value of a hexadecimal digit.
+// The value of a hexadecimal digit. By hand, since the library's conversions take capital letters too.
 fn nibble(digit: u8) -> Option<u8> {
     match digit {
         b'0'..=b'9' => Some(digit - b'0'),
@@ -28,19 +29,30 @@ fn bytes_of(heap: Global, hex: &str) -> anyhow::Result<Vec<u8>> {
         };
         let high = nibble(*high).context("no digit")?;
         let low = nibble(*low).context("no digit")?;
-        bytes.push(high.wrapping_mul(16) | low)?;
+        bytes.push((high << 4) | low)?;
     }
     Ok(bytes)
 }
 
-fn fault_lines(heap: Global, fault: Fault) -> anyhow::Result<String> {
-    let number = fault.refusal().number();
-    let line = fault.line();
-    Ok(format!(in heap; "fault={number}\nline={line}\n")?)
+// What the writer answered, as it is printed.
+#[derive(Drop)]
+struct Written(Result<usize, Fault>);
+
+impl Display for Written {
+    fn fmt<W: fmt::Write>(&self, f: &mut fmt::Formatter<W>) -> fmt::Result {
+        match &self.0 {
+            Ok(n) => writeln!(f, "bytes={n}"),
+            Err(fault) => {
+                let number = fault.refusal().number();
+                let line = fault.line();
+                write!(f, "fault={number}\nline={line}\n")
+            }
+        }
+    }
 }
 
 // The writer's answer on a buffer of 0xaa, and the buffer after it.
-fn written(heap: Global, figures: &str) -> anyhow::Result<String> {
+fn run_writer(heap: Global, figures: &str) -> anyhow::Result<String> {
     let mut words = figures.split(' ');
     let room = words.next().context("no room")?.parse::<usize>()?;
     let session = words.next().context("no session")?.parse::<i64>()?;
@@ -49,22 +61,15 @@ fn written(heap: Global, figures: &str) -> anyhow::Result<String> {
         nets.push(word.parse::<i64>()?)?;
     }
     let mut buffer = vec![in heap; 0xaau8; room]?;
-    let mut out = match write(session, &nets, &mut buffer) {
-        Ok(n) => format!(in heap; "bytes={n}\n")?,
-        Err(fault) => fault_lines(heap, fault)?,
-    };
-    out.push_str("buffer=")?;
-    for b in buffer.iter() {
-        out.push_str(format!(in heap; "{b:02x}")?.as_str())?;
-    }
-    out.push_str("\n")?;
-    Ok(out)
+    let answer = Written(write(session, &nets, &mut buffer));
+    let buffer = hex::encode(heap, &buffer)?;
+    Ok(format!(in heap; "{answer}buffer={buffer}\n")?)
 }
 
 fn answer(heap: Global, case: &str) -> anyhow::Result<String> {
     match case.split_once(' ') {
         Some(("read", hex)) => Ok(report(heap, &bytes_of(heap, hex)?)?),
-        Some(("write", figures)) => written(heap, figures),
+        Some(("write", figures)) => run_writer(heap, figures),
         _ => Err(anyhow!("no such case")),
     }
 }

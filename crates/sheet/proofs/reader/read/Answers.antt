@@ -1,29 +1,45 @@
-use Rattle.std.proofs.Common.{◌≡◌, sym, ap, ◌∙◌, subst}
-use Rattle.std.proofs.lemmas.List.{take_rest}
+use Rattle.std.proofs.Common.{◌≡◌, [], ◌∷◌, ◌++◌, eqb, Some, None, Err, rules, tests, sym, ap, ◌∙◌, subst}
+use Rattle.std.proofs.lemmas.Bool.Decides.{Decides-eqb}
+use Rattle.std.proofs.lemmas.Fn.{always_returns_same}
+use Rattle.std.proofs.lemmas.Slice.Eq.{strip_suffix_is}
 use Rattle.sheet.specs.Laws.{Accepts}
-use Rattle.sheet.specs.Reading.{reads, finished}
-use Rattle.sheet.proofs.Accepting.{before_start, accepts, byte_on, good_on, bad_on, end_on, before_same}
+use Rattle.sheet.specs.Reading.{reads}
 use Rattle.sheet.proofs.Judging.{front_decides}
+use Rattle.sheet.proofs.Accepting.{Part, before_start, accepts, good_on, bad_on, cut_on, end_on}
 use Rattle.sheet.proofs.reader.read.Goals as goal
-use Rattle.sheet.proofs.reader.read.Goals.{then-b-eq10+in-Some, else-b-eq10}
+use Rattle.sheet.proofs.reader.read.Goals.{In-Some, In-Some-strip_suffix}
 
-pub loop-i-init : goal.loop-i-init
-loop-i-init c = rw c.start-reading.ensures (before_start c.args.bytes.now)
+part : (c : In-Some) → Part c.loop-part.part-iterator.rest.now c.in-Some.part.now c.next.new.self.rest.now
+part c =
+    let steps = c.in-Some.ensures.steps in
+    let found = steps.1.2 (λ b. eqb b 10) (always_returns_same _ _ _ (λ a r f k. search (rules, tests))) in
+    record { cut = steps.0; place = steps.1.0; long = steps.1.1; first = found.1; some = steps.2 }
+
+line : (c : In-Some-strip_suffix) → c.in-Some.part.now ≡ c.in-Some-strip_suffix.text.now ++ (10 ∷ [])
+line c = strip_suffix_is Decides-eqb c.in-Some.part.now (10 ∷ []) (Some c.in-Some-strip_suffix.text) c.in-Some-strip_suffix.ensures.cases
+
+pub loop-part-init : goal.loop-part-init
+loop-part-init c = rw (c.into_iter-part-iterator.ensures.into_iter_gives, c.split_inclusive-part-items.ensures.rest, c.start-reading.ensures) (before_start c.args.bytes.now)
 
 pub returns-in_default : goal.returns-in_default
 returns-in_default c =
     let bytes = c.args.bytes.now in
-    let e : c.bad_line.result ≡ reads bytes = c.bad_line.ensures ∙ bad_on bytes c.loop-i.start c.loop-i.i c.loop-i.line c.loop-i.reading c.loop-i-test.true c.loop-i.invariant c.if-b-eq10.true c.in_default.ensures in
+    let lacks = strip_suffix_is Decides-eqb c.in-Some.part.now (10 ∷ []) None c.in_default.ensures.cases in
+    let e : Err c.bad_line.result ≡ reads bytes = ap Err c.bad_line.ensures ∙ cut_on bytes _ _ _ c.loop-part.line c.loop-part.reading c.loop-part.invariant (part (goal.at.returns-in_default c).In-Some) lacks in
     record { answer = e; accepts = subst (Accepts bytes) (sym e) (accepts bytes); front = front_decides bytes }
 
-pub loop-i-preserved : goal.loop-i-preserved
-loop-i-preserved c =
+pub returns-in_default-take : goal.returns-in_default-take
+returns-in_default-take c =
     let bytes = c.args.bytes.now in
-    elim c.if-b-eq10.branch [ then-b-eq10+in-Some w ↦ before_same w.start-is w.line-is w.reading-is (good_on bytes c.loop-i.start c.loop-i.i c.loop-i.line c.loop-i.reading c.loop-i-test.true c.loop-i.invariant w.in-Some.next w.if-b-eq10.true w.in-Some.ensures) | else-b-eq10 w ↦ before_same w.start-is w.line-is w.reading-is (byte_on bytes c.loop-i.start c.loop-i.i c.loop-i.line c.loop-i.reading c.loop-i-test.true c.loop-i.invariant w.if-b-eq10.false) ]
+    let e : Err c.bad_line-in_default-take.result ≡ reads bytes = ap Err c.bad_line-in_default-take.ensures ∙ bad_on bytes _ _ _ c.loop-part.line c.loop-part.reading c.loop-part.invariant (part (goal.at.returns-in_default-take c).In-Some) c.in-Some-strip_suffix.text.now (line (goal.at.returns-in_default-take c).In-Some-strip_suffix) c.in_default-take.ensures in
+    record { answer = e; accepts = subst (Accepts bytes) (sym e) (accepts bytes); front = front_decides bytes }
+
+pub loop-part-preserved : goal.loop-part-preserved
+loop-part-preserved c =
+    good_on c.args.bytes.now _ _ _ c.loop-part.line c.loop-part.reading c.loop-part.invariant (part (goal.at.loop-part-preserved c).In-Some) c.in-Some-strip_suffix.text.now c.in-Some-take.next (line (goal.at.loop-part-preserved c).In-Some-strip_suffix) c.in-Some-take.ensures
 
 pub returns : goal.returns
 returns c =
     let bytes = c.args.bytes.now in
-    let part = ap (λ xs. finished c.loop-i.reading.next c.loop-i.reading.sheet xs c.loop-i.line) (take_rest bytes c.loop-i.start) in
-    let e : c.finish.result ≡ reads bytes = c.finish.ensures ∙ part ∙ end_on bytes c.loop-i.start c.loop-i.i c.loop-i.line c.loop-i.reading c.loop-i-test.false c.loop-i.invariant in
+    let e : c.finish.result ≡ reads bytes = c.finish.ensures ∙ end_on bytes c.loop-part.part-iterator.rest.now c.loop-part.line c.loop-part.reading c.in-None.ensures.steps.0 c.loop-part.invariant in
     record { answer = e; accepts = subst (Accepts bytes) (sym e) (accepts bytes); front = front_decides bytes }

@@ -1,5 +1,5 @@
 use Rattle.sheet.proofs.Accepting.{Before}
 use Rattle.sheet.proofs.reader.read.Given as goal
 
-abbrev pub invariant-loop-i : goal.invariant-loop-i
-invariant-loop-i l = Before l.bytes l.start l.i l.line l.reading
+abbrev pub invariant-loop-part : goal.invariant-loop-part
+invariant-loop-part l = Before l.bytes l.part-iterator.rest.now l.line l.reading

@@ -1,35 +1,15 @@
-use Rattle.std.proofs.Common.{◌≡◌, ℕ, ◌<◌, ◌≤◌, true, false, cond, leb, List, Some, None, Option}
-use Rattle.std.proofs.lemmas.Bool.{le-leb, lt-leb}
-use Rattle.sheet.specs.Numerals.{numeral, trim, value_up_to, onward}
+use Rattle.std.proofs.Common.{sym, ◌∙◌}
+use Rattle.sheet.proofs.Numerals.{untrim, no_text, ok_some, ok_none, parsed}
 use Rattle.sheet.proofs.reading.numeral.Goals as goal
 
--- a numeral, by its parts
-untrim : (low high : ℕ) (ds : List ℕ) → false ≡ trim ds → None ≡ numeral low high ds
-unfolding numeral
-untrim low high ds e = rw (← e)
-
-trimmed : (low high : ℕ) (ds : List ℕ) (r : Option ℕ) → true ≡ trim ds → r ≡ value_up_to high ds → numeral low high ds ≡ onward r (λ n. cond (leb low n) (Some n) None)
-unfolding numeral
-trimmed low high ds r e f = rw (← e, ← f)
-
-enough : (low n : ℕ) → low ≤ n → onward (Some n) (λ n. cond (leb low n) (Some n) None) ≡ Some n
-enough low n h = rw (le-leb low n h)
-
-little : (low n : ℕ) → n < low → onward (Some n) (λ n. cond (leb low n) (Some n) None) ≡ None
-little low n h = rw (lt-leb low n h)
-
 pub returns-then-not-is_trim : goal.returns-then-not-is_trim
-returns-then-not-is_trim c = untrim c.args.low c.args.high c.args.digits.now c.if-not-is_trim.ensures
+returns-then-not-is_trim c = untrim 0 18446744073709551615 c.args.digits.now c.if-not-is_trim.ensures
 
-pub returns-in_err-n : goal.returns-in_err-n
-returns-in_err-n c = let t = trimmed c.args.low c.args.high c.args.digits.now None c.if-not-is_trim.ensures c.in_err-n.ensures in cc
+pub returns-in_err-ok : goal.returns-in_err-ok
+returns-in_err-ok c =
+    c.from_residual.ensures ∙ ok_none c.from_utf8.result _ _ (sym c.ok.ensures.value ∙ c.in_err-ok.was) c.from_utf8.ensures.cases (λ y p. no_text 0 18446744073709551615 c.args.digits.now p.0)
 
-pub returns-then-low-n : goal.returns-then-low-n
-returns-then-low-n c =
-    let t = trimmed c.args.low c.args.high c.args.digits.now (Some c.in_ok-n.n) c.if-not-is_trim.ensures c.in_ok-n.ensures in
-    cc (enough c.args.low c.in_ok-n.n c.if-low-n.true)
-
-pub returns-else-low-n : goal.returns-else-low-n
-returns-else-low-n c =
-    let t = trimmed c.args.low c.args.high c.args.digits.now (Some c.in_ok-n.n) c.if-not-is_trim.ensures c.in_ok-n.ensures in
-    cc (little c.args.low c.in_ok-n.n c.if-low-n.false)
+pub returns : goal.returns
+returns c =
+    let text = ok_some c.from_utf8.result _ _ c.in_ok-ok.field-0 (sym c.ok.ensures.value ∙ c.in_ok-ok.was) c.from_utf8.ensures.cases in
+    c.ok-2.ensures.value ∙ parsed c.args.digits.now c.parse.result c.if-not-is_trim.ensures (rw text.0 at c.parse.ensures.value.0)

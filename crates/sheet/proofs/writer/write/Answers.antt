@@ -1,17 +1,16 @@
-use Rattle.std.proofs.Common.{◌≡◌, ◌-◌, true, ◌++◌, length, take, drop, nat_abs, is_ok, Err, sym, ap, ◌∙◌, arith, w64}
-use borrow.Rule.Slice.PartMut.{post_of}
-use Rattle.refusal.specs.Checks.{raised}
-use Rattle.std.proofs.lemmas.List.{length-take-le, take_at}
+use Rattle.refusal.specs.declared.Refusal.TheVariants.{ListLength}
+use Rattle.std.proofs.Common.{◌≡◌, leb, true, length, nat_abs, is_ok, Err, sym, refl, ap, ◌∙◌, arith, w64}
+use Rattle.refusal.specs.Checks.{raised, check}
+use Rattle.std.proofs.lemmas.List.{take_at}
 use Rattle.std.proofs.lemmas.Result.{err_from_is_err_and}
 use Rattle.std.proofs.lemmas.Int.{ints, to_z-of_z}
-use Rattle.sheet.specs.Pages.{on_page}
 use Rattle.sheet.specs.Reading.{reads}
 use Rattle.sheet.specs.Text.{text}
 use Rattle.sheet.specs.Writing.{sendable, Sendable, filled}
 use Rattle.sheet.proofs.Complete.{complete}
 use Rattle.sheet.proofs.Writes.{granted, refused, sendable_tells}
 use Rattle.sheet.proofs.writer.write.Goals as goal
-use Rattle.sheet.proofs.writer.write.Goals.{In_ok-check_figures}
+use Rattle.sheet.proofs.writer.write.Goals.{In_ok-check_figures, After-compose-page}
 
 passed : (c : In_ok-check_figures) → true ≡ is_ok (sendable c.args.session c.args.nets.now)
 passed c = ap is_ok c.in_ok-check_figures.ensures ∙ ap (λ z. is_ok (sendable z c.args.nets.now)) (to_z-of_z w64 c.args.session c.ranges.session)
@@ -33,26 +32,30 @@ compose-page-requires c =
     let high = h.to in
     record { session = omega (arith, ints); few = h.few; nets = h.paid }
 
+-- the page holds the text
+whole : (c : After-compose-page) → c.compose-page.result.bytes ≡ text (nat_abs c.args.session) c.args.nets.now
+whole c = c.compose-page.ensures ∙ ap (λ z. text (nat_abs z) c.args.nets.now) (to_z-of_z w64 c.args.session c.ranges.session)
+
 pub returns-in_err-check_room : goal.returns-in_err-check_room
 returns-in_err-check_room c =
     let p = err_from_is_err_and c.from_residual-in_err-check_room.result c.from_residual-in_err-check_room.ensures.1 in
-    let page = c.compose-page.result in
     let sheet = text (nat_abs c.args.session) c.args.nets.now in
-    let whole : on_page page ≡ sheet = c.compose-page.ensures ∙ ap (λ z. text (nat_abs z) c.args.nets.now) (to_z-of_z w64 c.args.session c.ranges.session) in
-    let long = sym (length-take-le page.len page.bytes (omega arith)) ∙ ap length whole in
-    let w = refused c.args.session c.args.nets.now (length c.args.buffer.now) page.len c.in_err-check_room.field-0.0 long (passed (goal.at.returns-in_err-check_room c).In_ok-check_figures) c.in_err-check_room.ensures in
+    let long = ap length (whole (goal.at.returns-in_err-check_room c).After-compose-page) in
+    let w = refused c.args.session c.args.nets.now (length c.args.buffer.now) _ c.in_err-check_room.field-0.0 long (passed (goal.at.returns-in_err-check_room c).In_ok-check_figures) c.in_err-check_room.ensures in
     record { answer = p.1 ∙ ap Err p.2 ∙ sym (ap raised w); after = sym (ap (λ r. filled r sheet c.args.buffer.now) w); reads_back = rw p.1 tt }
 
-pub returns : goal.returns
-returns c =
-    let page = c.compose-page.result in
-    let sheet = text (nat_abs c.args.session) c.args.nets.now in
-    let whole : on_page page ≡ sheet = c.compose-page.ensures ∙ ap (λ z. text (nat_abs z) c.args.nets.now) (to_z-of_z w64 c.args.session c.ranges.session) in
-    let long = sym (length-take-le page.len page.bytes (omega arith)) ∙ ap length whole in
-    let w = granted c.args.session c.args.nets.now (length c.args.buffer.now) page.len long (passed (goal.at.returns c).In_ok-check_figures) (ap is_ok c.in_ok-check_room.ensures) in
-    let copied = c.copy_from_slice.ensures.after in
-    let same : page.len - 0 ≡ page.len = omega arith in
-    let left = c.copy_from_slice.new.self ++ post_of 0 (page.len - 0) c.args.buffer.now in
-    let after : left ≡ sheet ++ drop page.len c.args.buffer.now = cc in
-    let front = ap (take page.len) after ∙ take_at sheet (drop page.len c.args.buffer.now) page.len (sym long) in
-    record { answer = sym (ap raised w); after = after ∙ sym (ap (λ r. filled r sheet c.args.buffer.now) w); reads_back = ap reads front ∙ complete c.args.session c.args.nets.now (able (goal.at.returns c).In_ok-check_figures) }
+pub returns-clause-after : goal.returns-clause-after
+returns-clause-after c =
+    let page = whole (goal.at.returns-clause-after c).After-compose-page in
+    let copied : c.copy_from_slice.new.self ≡ text (nat_abs c.args.session) c.args.nets.now = c.copy_from_slice.ensures.after ∙ c.as_bytes.ensures.value ∙ c.deref.ensures.0 ∙ page in
+    let long = c.len-len.ensures.value ∙ ap length page in
+    let room = ap is_ok c.in_ok-check_room.ensures ∙ ap (λ k. is_ok (check (leb k (length c.args.buffer.now)) ListLength)) (sym c.len-len.ensures.value) in
+    let w = granted c.args.session c.args.nets.now (length c.args.buffer.now) c.len-len.result long (passed (goal.at.returns-clause-after c).In_ok-check_figures) room in
+    rw (copied, w) refl
+
+pub returns-clause-reads_back : goal.returns-clause-reads_back
+returns-clause-reads_back c =
+    let page = whole (goal.at.returns-clause-reads_back c).After-compose-page in
+    let copied : c.copy_from_slice.new.self ≡ text (nat_abs c.args.session) c.args.nets.now = c.copy_from_slice.ensures.after ∙ c.as_bytes.ensures.value ∙ c.deref.ensures.0 ∙ page in
+    let long = c.len-len.ensures.value ∙ ap length page in
+    rw copied (ap reads (take_at _ _ c.len-len.result (sym long)) ∙ complete c.args.session c.args.nets.now (able (goal.at.returns-clause-reads_back c).In_ok-check_figures))
