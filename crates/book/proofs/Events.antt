@@ -6,8 +6,8 @@ use Rattle.refusal.specs.declared.Refusal.{Refusal}
 use Rattle.refusal.specs.declared.Refusal.TheVariants.{OutOfRange, Session, NoSuchSwap, NotParty, JustRegistered}
 use Rattle.refusal.specs.Checks.{check, count_of}
 use Rattle.refusal.proofs.Then.{then_ok, into_ok, count_ok}
-use Rattle.book.specs.declared.calls.Request.{Request}
-use Rattle.book.specs.declared.calls.Reply.{Reply}
+use Rattle.book.specs.declared.words.Request.{Request}
+use Rattle.book.specs.declared.words.Reply.{Reply}
 use Rattle.swaps.specs.declared.state.State.{State}
 use Rattle.swaps.specs.declared.state.State.TheVariants.{Plain, Asked, Agreed}
 use Rattle.swaps.specs.declared.state.Event.{Event}

@@ -7,8 +7,8 @@ use Rattle.refusal.specs.declared.Refusal.TheVariants.{NoSuchSwap}
 use Rattle.refusal.specs.Checks.{count_of}
 use Rattle.refusal.proofs.Then.{into_ok, count_ok}
 use Rattle.book.specs.declared.book.Book.{Book}
-use Rattle.book.specs.declared.calls.Request.{Request}
-use Rattle.book.specs.declared.calls.Reply.{Reply}
+use Rattle.book.specs.declared.words.Request.{Request}
+use Rattle.book.specs.declared.words.Reply.{Reply}
 use Rattle.swaps.specs.declared.state.State.{State}
 use Rattle.swaps.specs.declared.state.Event.{Event}
 use Rattle.swaps.specs.declared.swap.Swap.{Swap}

@@ -5,8 +5,8 @@ use Rattle.std.proofs.lemmas.List.{get_or-set_same, set-set, set-get_or, get_or_
 use Rattle.refusal.specs.declared.Refusal.TheVariants.{OutOfRange, Session, NotParty, NoSuchSwap, JustRegistered}
 use Rattle.refusal.specs.Checks.{check, count_of, ◌into◌}
 use Rattle.refusal.proofs.Then.{then_ok, into_ok}
-use Rattle.book.specs.declared.calls.Request.{Request}
-use Rattle.book.specs.declared.calls.Reply.{Reply}
+use Rattle.book.specs.declared.words.Request.{Request}
+use Rattle.book.specs.declared.words.Reply.{Reply}
 use Rattle.swaps.specs.declared.state.State.{State}
 use Rattle.swaps.specs.declared.state.State.TheVariants.{Plain, Asked, Agreed}
 use Rattle.swaps.specs.declared.state.Event.{Event}

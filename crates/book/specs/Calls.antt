@@ -5,8 +5,8 @@ use Rattle.refusal.specs.declared.Refusal.TheVariants.{OutOfRange, SameAccount, 
 use Rattle.refusal.specs.Checks.{check, ◌then◌, ◌into◌, count_of}
 use Rattle.coupons.specs.declared.lines.Terms.{Terms}
 use Rattle.book.specs.declared.calls.Offer.{Offer}
-use Rattle.book.specs.declared.calls.Request.{Request}
-use Rattle.book.specs.declared.calls.Reply.{Reply}
+use Rattle.book.specs.declared.words.Request.{Request}
+use Rattle.book.specs.declared.words.Reply.{Reply}
 use Rattle.swaps.specs.declared.state.State.{State}
 use Rattle.swaps.specs.declared.state.State.TheVariants.{Plain}
 use Rattle.swaps.specs.declared.state.Event.{Event}
@@ -79,18 +79,18 @@ answer_of accounts s r =
     party s by then
     Ok (cond r.agrees (Yes by) (No by))
 
--- the place of the swap that is asked or answered about, and what is asked or answered
-abbrev pub asking : Reading → Request → Result (ℕ × Event) Refusal
-asking b r =
-    found b r.number into λ i.
-    ask_of (length b.accounts) b.closed (slice_index_or b.swaps i blank) r into λ e.
+-- the place of the swap that a party's word is about, and what it asks or answers
+abbrev pub heard : {W : Type 0} → (W → ℤ) → (ℕ → ℕ → Swap → W → Result Event Refusal) → Reading → W → Result (ℕ × Event) Refusal
+heard named event_of b w =
+    found b (named w) into λ i.
+    event_of (length b.accounts) b.closed (slice_index_or b.swaps i blank) w into λ e.
     Ok (i, e)
 
+abbrev pub asking : Reading → Request → Result (ℕ × Event) Refusal
+asking b r = heard (λ w. w.number) ask_of b r
+
 abbrev pub answering : Reading → Reply → Result (ℕ × Event) Refusal
-answering b r =
-    found b r.number into λ i.
-    answer_of (length b.accounts) (slice_index_or b.swaps i blank) r into λ e.
-    Ok (i, e)
+answering b r = heard (λ w. w.number) (λ accounts closed s w. answer_of accounts s w) b r
 
 -- the state that it leaves of that swap
 abbrev pub stepped : Reading → Result (ℕ × Event) Refusal → Result (ℕ × State) Refusal

@@ -3,8 +3,8 @@ use Rattle.std.specs.Prelude.{◌≡◌, ℕ, ◌<◌, ◌≤◌, false, List, [
 use Rattle.refusal.specs.declared.Refusal.{Refusal}
 use Rattle.book.specs.declared.book.Book.{Book}
 use Rattle.book.specs.declared.calls.Offer.{Offer}
-use Rattle.book.specs.declared.calls.Request.{Request}
-use Rattle.book.specs.declared.calls.Reply.{Reply}
+use Rattle.book.specs.declared.words.Request.{Request}
+use Rattle.book.specs.declared.words.Reply.{Reply}
 use Rattle.swaps.specs.declared.state.State.{State}
 use Rattle.swaps.specs.declared.swap.Swap.{Swap}
 use Rattle.swaps.specs.Swaps.{blank, Each, Fair}

@@ -3,10 +3,12 @@ ghost use Rattle.std.specs.Prelude.{◌≡◌, ◌<◌, true, length, IfOk, Ok, 
 ghost use Rattle.refusal.specs.Checks.{raised};
 ghost use Rattle.swaps.specs.Swaps.{blank, timely_event};
 ghost use Rattle.book.specs.Reading.{reading};
-ghost use Rattle.book.specs.Calls.{parties, figures_of, offered, answered, after, taken, found, ask_of, answer_of, asking, answering, stepped, asked, replied, changed};
+ghost use Rattle.book.specs.Calls.{parties, figures_of, offered, answered, after, taken, found, heard, stepped, asked, replied, changed};
 
 use crate::book::Book;
 use crate::table::place;
+use crate::words::Word;
+pub use crate::words::{Reply, Request};
 use coupons::limits::amount;
 use coupons::lines::Terms;
 use refusal::{Fault, Refusal, counted, demand};
@@ -24,23 +26,6 @@ pub struct Offer {
     pub thousands: i64,
     pub npv: i64,
     pub maturity: i64,
-}
-
-// A request of a party to end a swap early, in any figures: a payment to the long side, and the session.
-#[derive(Clone, Copy, Debug, PartialEq, Eq)]
-pub struct Request {
-    pub number: i64,
-    pub account: i64,
-    pub payment: i64,
-    pub session: i64,
-}
-
-// The other party's answer to a request.
-#[derive(Clone, Copy, Debug, PartialEq, Eq)]
-pub struct Reply {
-    pub number: i64,
-    pub account: i64,
-    pub agrees: bool,
 }
 
 // Two accounts that differ.
@@ -108,66 +93,13 @@ impl Book {
         place(&self.table.swaps, number).ok_or(Refusal::NoSuchSwap)
     }
 
-    // What is asked of a swap, checked in the order of the refusals.
-    fn ask_of(&self, swap: &Swap, request: &Request) -> Result<Event, Refusal>
-        ensures { result ≡ ask_of (length (reading self.now).accounts) (reading self.now).closed swap.now request.now }
+    // The place of the swap that a party's word is about, and what it asks or answers.
+    fn heard<W: Word>(&self, word: &W) -> Result<(usize, Event), Refusal>
+        ensures { result ≡ heard W.named W.event_of (reading self.now) word.now }
     {
-        let by = counted(
-            0,
-            self.accounts.len() as u32,
-            request.account,
-            Refusal::OutOfRange,
-        )?;
-        let payment = amount(request.payment)?.get();
-        let session = counted(
-            self.closed + 3,
-            swap.maturity,
-            request.session,
-            Refusal::Session,
-        )?;
-        swap.check_party(by)?;
-        demand(swap.registered != self.closed + 1, Refusal::JustRegistered)?;
-        Ok(Event::Ask {
-            by,
-            payment,
-            session,
-        })
-    }
-
-    // What is answered about a swap, checked in the order of the refusals.
-    fn answer_of(&self, swap: &Swap, reply: &Reply) -> Result<Event, Refusal>
-        ensures { result ≡ answer_of (length (reading self.now).accounts) swap.now reply.now }
-    {
-        let by = counted(
-            0,
-            self.accounts.len() as u32,
-            reply.account,
-            Refusal::OutOfRange,
-        )?;
-        swap.check_party(by)?;
-        Ok(if reply.agrees {
-            Event::Yes { by }
-        } else {
-            Event::No { by }
-        })
-    }
-
-    // The place of the swap that is asked about, and what is asked.
-    fn asking(&self, request: &Request) -> Result<(usize, Event), Refusal>
-        ensures { result ≡ asking (reading self.now) request.now }
-    {
-        let i = self.found(request.number)?;
-        let event = self.ask_of(&self.table.swaps[i], request)?;
-        Ok((i, event))
-    }
-
-    // The place of the swap that is answered about, and what is answered: the same two steps as for a request. A trait over requests and
-    // replies would be longer than the two functions that it joins.
-    fn answering(&self, reply: &Reply) -> Result<(usize, Event), Refusal>
-        ensures { result ≡ answering (reading self.now) reply.now }
-    {
-        let i = self.found(reply.number)?;
-        let event = self.answer_of(&self.table.swaps[i], reply)?;
+        let i = self.found(word.number())?;
+        let accounts = self.accounts.len() as u32;
+        let event = word.event(accounts, self.closed, &self.table.swaps[i])?;
         Ok((i, event))
     }
 
@@ -186,7 +118,7 @@ impl Book {
         ensures answer { result ≡ raised (answered (asked (reading self.old) request.now) (λ _. tt)) }
         ensures after { reading self.new ≡ after (asked (reading self.old) request.now) (reading self.old) (changed (reading self.old)) }
     {
-        let (i, event) = self.asking(request)?;
+        let (i, event) = self.heard(request)?;
         self.step(i, event)?;
         Ok(())
     }
@@ -196,7 +128,7 @@ impl Book {
         ensures answer { result ≡ raised (answered (replied (reading self.old) reply.now) (λ _. tt)) }
         ensures after { reading self.new ≡ after (replied (reading self.old) reply.now) (reading self.old) (changed (reading self.old)) }
     {
-        let (i, event) = self.answering(reply)?;
+        let (i, event) = self.heard(reply)?;
         self.step(i, event)?;
         Ok(())
     }

@@ -8,3 +8,4 @@ pub mod laws;
 pub mod opening;
 pub mod questions;
 pub mod table;
+pub mod words;

@@ -4,8 +4,8 @@ use Rattle.refusal.specs.declared.Refusal.{Refusal}
 use Rattle.refusal.specs.declared.Refusal.TheVariants.{SettlementUnderWay}
 use Rattle.refusal.specs.Checks.{check, ◌then◌}
 use Rattle.book.specs.declared.calls.Offer.{Offer}
-use Rattle.book.specs.declared.calls.Request.{Request}
-use Rattle.book.specs.declared.calls.Reply.{Reply}
+use Rattle.book.specs.declared.words.Request.{Request}
+use Rattle.book.specs.declared.words.Reply.{Reply}
 use Rattle.swaps.specs.declared.state.State.{State}
 use Rattle.swaps.specs.declared.swap.Swap.{Swap}
 use Rattle.book.specs.Reading.{Reading}
