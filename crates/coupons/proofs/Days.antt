@@ -1,5 +1,5 @@
 -- What it tells of observations that they passed, and their days.
-use Rattle.std.proofs.Common.{◌≡◌, ℕ, zero, suc, ◌+◌, ◌<◌, ◌≤◌, List, [], ◌∷◌, length, get_or, drop, ℤ, pos, ◌+ℤ◌, nat_abs, ◌≤ℤ◌, Ok, Err, Result, sym, refl, ap, arith, w64, to_z, of_z}
+use Rattle.std.proofs.Common.{◌≡◌, ℕ, zero, suc, ◌+◌, ◌<◌, ◌≤◌, List, [], ◌∷◌, length, get_or, drop, ℤ, pos, ◌+ℤ◌, ◌≤ℤ◌, Ok, Err, Result, sym, refl, ap, arith}
 use lib.Signed.{le_z}
 use Rattle.refusal.proofs.Then.{then_ok, check_passed}
 use Rattle.refusal.specs.Checks.{check, ◌then◌, ◌into◌, seen}

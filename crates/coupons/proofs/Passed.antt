@@ -1,32 +1,11 @@
 -- What it tells of the figures that they passed their checks.
-use Rattle.std.proofs.Common.{◌≡◌, ℕ, ◌≤◌, true, ℤ, pos, ◌-ℤ◌, nat_abs, ◌≤ℤ◌, is_ok, Ok, Err, Result, arith}
+use Rattle.std.proofs.Common.{◌≡◌, ℕ, true, ℤ, pos, ◌-ℤ◌, ◌≤ℤ◌, is_ok, Ok, Err, Result, arith}
 use Rattle.refusal.proofs.Then.{then_both, check_passed}
 use Rattle.refusal.proofs.Within.{within_low, within_high}
 use Rattle.refusal.specs.Checks.{within, check, ◌then◌}
 use Rattle.refusal.specs.declared.Refusal.TheVariants.{MarketFigure, ListLength}
-use Rattle.std.proofs.lemmas.Int.{ints}
 use Rattle.coupons.specs.Overnight.{range_checks}
-use Rattle.coupons.specs.Limits.{nominal_check, rate_checks, trm_check, npv_check, overnight_checks}
-
-pub nominal_passed : (n : ℤ) → true ≡ is_ok (nominal_check n) → nat_abs n ≤ 100000
-nominal_passed n e = let h = check_passed _ _ e in let low = within_low _ _ n h in let high = within_high _ _ n h in omega (arith, ints)
-
-pub trm_passed : (n : ℤ) → true ≡ is_ok (trm_check n) → nat_abs n ≤ 2000000
-trm_passed n e = let h = check_passed _ _ e in let low = within_low _ _ n h in let high = within_high _ _ n h in omega (arith, ints)
-
-pub npv_passed : (n : ℤ) → true ≡ is_ok (npv_check n) → nat_abs n ≤ 10000000000000
-npv_passed n e = let h = check_passed _ _ e in let low = within_low _ _ n h in let high = within_high _ _ n h in omega (arith, ints)
-
-pub rate_passed : (rate days : ℤ) → true ≡ is_ok (rate_checks rate days) → (nat_abs rate ≤ 100000000) × (nat_abs days ≤ 366)
-rate_passed rate days e =
-    let p = then_both (check (within _ _ rate) MarketFigure) (check (within _ _ days) MarketFigure) e in
-    let r = check_passed _ _ p.0 in
-    let d = check_passed _ _ p.1 in
-    let rate_low = within_low _ _ rate r in
-    let rate_high = within_high _ _ rate r in
-    let days_low = within_low _ _ days d in
-    let days_high = within_high _ _ days d in
-    (omega (arith, ints), omega (arith, ints))
+use Rattle.coupons.specs.Limits.{overnight_checks}
 
 pub overnight_passed : (rate days : ℤ) → true ≡ is_ok (overnight_checks rate days) → (pos 0 ≤ℤ rate) × (rate ≤ℤ pos 50000) × (pos 1 ≤ℤ days) × (days ≤ℤ pos 10)
 overnight_passed rate days e =

@@ -2,7 +2,8 @@
 ghost use Rattle.std.specs.Prelude.{◌≡◌, ◌<◌, ◌≤◌, pos, neg_ℤ, int_div, int_rem, unsigned_abs};
 ghost use Rattle.coupons.specs.Rounding.{rounded, Nearest};
 
-// Quotient and rest, of which the rest has the dividend's sign.
+// Quotient and rest, of which the rest has the dividend's sign. A divisor is a plain number and not a `NonZeroU32`, which would have to be
+// unwrapped at every formula's constant.
 fn divided(dividend: i64, divisor: u32) -> (i64, i64)
     requires { 0 < divisor }
     ensures quotient { result.0 ≡ int_div dividend (pos divisor) }

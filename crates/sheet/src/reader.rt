@@ -40,6 +40,7 @@ pub fn read(bytes: &[u8]) -> Result<Sheet, Fault>
             return Err(bad_line(line));
         };
         reading = next;
+        // Counted here, since the end of the bytes needs the number too.
         line += 1;
     }
     finish(reading, line)

@@ -1,11 +1,9 @@
-use Rattle.std.proofs.Common.{◌+◌, drop, pos, is_ok, Ok, Err, sym, ap, ◌∙◌, ◌≡◌}
-use lib.Signed.{le_z}
+use Rattle.std.proofs.Common.{◌+◌, drop, pos, is_ok, Ok, Err, sym, ap, ◌∙◌}
 use Rattle.refusal.proofs.Then.{then_passes, then_fails}
-use Rattle.refusal.specs.Checks.{check, ◌then◌, seen}
-use Rattle.refusal.specs.declared.Refusal.TheVariants.{Factor}
+use Rattle.refusal.specs.Checks.{seen}
 use Rattle.std.proofs.lemmas.Result.{err_from_is_err_and}
 use Rattle.coupons.specs.declared.overnight.Observation.{Observation}
-use Rattle.coupons.specs.Overnight.{growth, compounded, factor_checks}
+use Rattle.coupons.specs.Overnight.{compounded, factor_checks}
 use Rattle.coupons.proofs.Growth.{factors_more, factors_all, compounded-more, compounded_all, grown_err, grown_ok}
 use Rattle.coupons.proofs.overnight.factor_of.Goals as goal
 

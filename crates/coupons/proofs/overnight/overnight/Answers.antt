@@ -1,4 +1,4 @@
-use Rattle.std.proofs.Common.{◌≡◌, ◌≤◌, length, ℤ, pos, ◌+ℤ◌, ◌≤ℤ◌, sym, arith}
+use Rattle.std.proofs.Common.{length, pos, ◌+ℤ◌, ◌≤ℤ◌, sym, arith}
 use Rattle.std.proofs.lemmas.Int.{ints}
 use Rattle.coupons.specs.Overnight.{Good}
 use Rattle.coupons.proofs.Days.{days_good}

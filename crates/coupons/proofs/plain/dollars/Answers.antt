@@ -2,7 +2,6 @@ use Rattle.std.proofs.Common.{◌≡◌, Ok, Err, sym, ap, ◌∙◌, w64}
 use Rattle.std.proofs.lemmas.Int.{to_z-of_z}
 use Rattle.std.proofs.lemmas.Result.{err_from_is_err_and}
 use Rattle.refusal.proofs.Then.{then_passes, then_fails, then_ok}
-use Rattle.refusal.specs.Checks.{◌then◌}
 use Rattle.coupons.proofs.Passed.{then_err}
 use Rattle.coupons.specs.Formulas.{dollars}
 use Rattle.coupons.specs.Limits.{nominal_check, trm_check, rate_checks, dollar_checks}
