@@ -16,6 +16,7 @@ pub extern "C" fn runtsigo_fixed(millions: i64, rate: i64, days: i64) -> i64
     simple(millions, rate, days).map_or(i64::MIN, Centavos::get)
 }
 
+// The same formula as for a fixed coupon: C knows both by their names.
 #[unsafe(no_mangle)]
 pub extern "C" fn runtsigo_variable(millions: i64, rate: i64, days: i64) -> i64
     ensures answer { result ≡ exported (simple_checks millions rate days) (simple millions rate days) }

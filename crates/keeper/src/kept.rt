@@ -1,4 +1,4 @@
-// Lent places, and how many of them are filled, from the front on.
+// Lent places, and how many of them are filled, from the front on: a keeper asks for no memory, so the count stands beside the slice.
 ghost use Rattle.std.specs.Prelude.{◌≤◌, length};
 
 #[derive(Drop)]

@@ -14,11 +14,12 @@ use std::alloc::{AllocError, Global};
 use std::fmt::Write;
 use std::io::{BufRead, BufReader};
 
-// A word's number: a member, or an amount.
+// A word's number: a member, or an amount. Each program has such a line of its own: a shared crate for it would be longer than the function.
 fn number(word: Option<&str>) -> anyhow::Result<u64> {
     Ok(word.context("a figure is missing")?.parse::<u64>()?)
 }
 
+// The name is a word of the input.
 fn transfer_of(name: &str, member: usize, amount: u64) -> anyhow::Result<Transfer> {
     Ok(match name {
         "charge" => Transfer::Charge { member, amount },

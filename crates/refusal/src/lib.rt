@@ -54,7 +54,7 @@ pub enum Refusal {
 }
 
 impl Refusal {
-    // The number by which clients know the refusal.
+    // The number by which clients know the refusal: `u8::from` would not say which number it is.
     pub fn number(self) -> u8
         ensures { result ≡ number self }
     {

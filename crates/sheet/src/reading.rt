@@ -15,7 +15,7 @@ pub struct Sheet {
     pub nets: [i64; MEMBERS],
 }
 
-// What the next line has to be.
+// What the next line has to be. The laws of the reader speak of this state, so it is an enum and no function to be called next.
 #[derive(Clone, Copy)]
 pub(crate) enum Next {
     Session,

@@ -66,6 +66,7 @@ fn run_writer(heap: Global, figures: &str) -> anyhow::Result<String> {
     Ok(format!(in heap; "{answer}buffer={buffer}\n")?)
 }
 
+// The first word of a case says what is run.
 fn answer(heap: Global, case: &str) -> anyhow::Result<String> {
     match case.split_once(' ') {
         Some(("read", hex)) => Ok(report(heap, &bytes_of(heap, hex)?)?),
