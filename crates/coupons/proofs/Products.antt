@@ -38,3 +38,15 @@ module _ (a b c : ℤ) (f : SFits w64 a) (g : SFits w64 b) (h : SFits w64 c) (tw
 
   pub three_back : to_z w64 (of_z w64 (to_z w64 (of_z w64 (to_z w64 (of_z w64 a) *ℤ to_z w64 (of_z w64 b))) *ℤ to_z w64 (of_z w64 c))) ≡ a *ℤ b *ℤ c
   three_back = to_z-of_z w64 _ fits_three ∙ whole
+
+-- a product of three figures that have limits, in the machine
+pub record Fitting (x y z : ℤ) (most : ℕ) : Type 0 where
+  pub fits : SFits w64 (to_z w64 (of_z w64 (to_z w64 (of_z w64 x) *ℤ to_z w64 (of_z w64 y))) *ℤ to_z w64 (of_z w64 z))
+  pub back : to_z w64 (of_z w64 (to_z w64 (of_z w64 (to_z w64 (of_z w64 x) *ℤ to_z w64 (of_z w64 y))) *ℤ to_z w64 (of_z w64 z))) ≡ x *ℤ y *ℤ z
+  pub small : nat_abs (x *ℤ y *ℤ z) ≤ most
+
+pub fitting : (x y z : ℤ) (a b c : ℕ) → SFits w64 x → SFits w64 y → SFits w64 z → nat_abs x ≤ a → nat_abs y ≤ b → nat_abs z ≤ c → a * b ≤ 9000000000000000000 → a * b * c ≤ 9000000000000000000 → Fitting x y z (a * b * c)
+fitting x y z a b c f g h l m n few small =
+    let two = mul_small x y a b l m in
+    let three = three_small x y z a b c l m n in
+    record { fits = fits_three x y z f g h (omega arith) (omega arith); back = three_back x y z f g h (omega arith) (omega arith); small = three }
