@@ -1,17 +1,14 @@
 -- The laws of postings, figure by figure.
-use Rattle.std.specs.Prelude.{◌≡◌, ℕ, ◌<◌, ◌≤◌, List, length, ℤ, pos, refl}
+use Rattle.std.specs.Prelude.{◌≡◌, ℤ, refl}
 use Rattle.std.proofs.Common.{sym, ap, ◌∙◌, arith}
-use Rattle.std.specs.List.{AllByRecursion}
 use Rattle.std.proofs.lemmas.Int.{ints}
 use Rattle.netting.specs.Group.{Lawful, Additive}
 use Rattle.netting.specs.Whole.{wholes}
-use Rattle.netting.specs.Nets.{net_of, sum_below, member_of, member_net, Within}
-use Rattle.netting.specs.declared.nets.Entry.{Entry}
+use Rattle.netting.specs.Nets.{net_of, member_net}
 use Rattle.netting.specs.Wholes.{wholes_lawful}
 use Rattle.netting.proofs.Sums.{balanced, sum_same}
 use Rattle.netting.proofs.Membership.{members-balanced}
 use Rattle.netting.proofs.Additive.{sum_read, member_read}
-use Rattle.postings.specs.declared.posting.Posting.{Posting}
 use Rattle.postings.specs.Postings.{posted, postings, centavos}
 use Rattle.postings.specs.Laws.{PostingLaws, account_net}
 

@@ -1,10 +1,7 @@
 use Rattle.std.proofs.Common.{◌≡◌, ◌+◌, [], ◌∷◌, ◌++◌, take, sym, ap, ◌∙◌, subst, arith, rules}
 use Rattle.std.proofs.lemmas.List.{take_more, take_all}
-use Rattle.keeper.proofs.Filling.{Filling, filling_none, filling_put, filled_all}
+use Rattle.keeper.proofs.Filling.{Filling, filling_put, filled_all}
 use Rattle.keeper.proofs.first_of.Goals as goal
-
-pub loop-item-init : goal.loop-item-init
-loop-item-init g c = (omega arith, filling_none g.T.Ordered.before c.new-keeper.result c.new-keeper.ensures.filled)
 
 pub loop-item-preserved : goal.loop-item-preserved
 loop-item-preserved g c =

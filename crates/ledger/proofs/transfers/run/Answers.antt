@@ -1,5 +1,5 @@
-use Rattle.std.proofs.Common.{◌≡◌, ◌+◌, ◌++◌, length, take, drop, set, refl, sym, ap, ◌∙◌, arith, rules}
-use Rattle.std.proofs.lemmas.List.{length-take-le, take_all}
+use Rattle.std.proofs.Common.{◌+◌, ◌++◌, take, drop, set, refl, sym, ap, ◌∙◌, arith, rules}
+use Rattle.std.proofs.lemmas.List.{length-take-le}
 use Rattle.ledger.specs.Transfers.{decisions, funds_after}
 use Rattle.ledger.proofs.Runs.{funds_more, decisions-more, length-decisions, answers_more}
 use Rattle.ledger.proofs.transfers.run.Goals as goal
@@ -25,18 +25,4 @@ loop-i-preserved g c =
           ap (λ ds. set ds i one.result) inv.decided
           ∙ answers_more made c.args.answers.now i one.result long (omega arith)
           ∙ ap (λ ds. ds ++ drop (i + 1) c.args.answers.now) (sym (decisions-more f _ f ts i _ within inv.funds one.ensures.answer));
-    }
-
-pub returns : goal.returns
-returns g c =
-    let ts = c.args.transfers.now in
-    let i = c.loop-i.i in
-    let f = g.L.Ledger.means c.args.ledger.now in
-    let inv = c.loop-i.invariant in
-    let all = take_all i ts c.loop-i-test.false in
-    let end : i ≡ length ts = omega arith in
-    record {
-      answer = search rules;
-      decided = inv.decided ∙ ap (λ xs. decisions f xs ++ drop i c.args.answers.now) all ∙ ap (λ k. decisions f ts ++ drop k c.args.answers.now) end;
-      funds = inv.funds ∙ ap (funds_after f) all;
     }

@@ -1,5 +1,4 @@
-use Rattle.std.proofs.Common.{◌≡◌, Decides, take, refl, sym, ap, ◌∙◌, subst}
-use Rattle.std.proofs.lemmas.List.{take_all}
+use Rattle.std.proofs.Common.{◌≡◌, Decides, take, refl, sym, ◌∙◌, subst}
 use Rattle.ledger.specs.Transfers.{decisions, funds_after}
 use Rattle.ledger.proofs.Runs.{funds_more, decisions-more, length-decisions, alike_more, answers_equal}
 use Rattle.ledger.proofs.transfers.side_by_side.Goals as goal
@@ -25,21 +24,4 @@ loop-transfer-preserved g c =
       first = funds_more f _ _ ts i _ within inv.first one.ensures.answer one.ensures.funds;
       second = funds_more h _ _ ts i _ within inv.second two.ensures.answer two.ensures.funds;
       alike = rw (decisions-more f _ f ts i _ within inv.first one.ensures.answer, decisions-more h _ h ts i _ within inv.second two.ensures.answer) alike;
-    }
-
-pub returns : goal.returns
-returns g c =
-    let ts = c.args.transfers.now in
-    let f = g.L.Ledger.means c.args.first.now in
-    let h = g.R.Ledger.means c.args.second.now in
-    let inv = c.loop-transfer.invariant in
-    let all = take_all c.loop-transfer.transfer-index ts c.loop-transfer-test.false in
-    let first = inv.first ∙ ap (funds_after f) all in
-    let second = inv.second ∙ ap (funds_after h) all in
-    let answer = subst (λ xs. Decides c.loop-transfer.alike (decisions f xs ≡ decisions h xs)) all inv.alike in
-    record {
-      answer = answer;
-      first = first;
-      second = second;
-      equal = λ x. (answer.1 (ap (λ y. decisions y ts) x), first ∙ ap (λ y. funds_after y ts) x ∙ sym second);
     }

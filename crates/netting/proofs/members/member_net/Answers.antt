@@ -1,13 +1,10 @@
 use Rattle.std.proofs.Common.{◌≡◌, ℕ, ◌+◌, ◌≤◌, [], ◌∷◌, ◌++◌, length, get_or, take, sym, ap, ◌∙◌, subst, arith}
 use Rattle.std.proofs.lemmas.List.{length-append}
-use Rattle.std.proofs.lemmas.Slice.Zip.{zip_turn, zip_end}
+use Rattle.std.proofs.lemmas.Slice.Zip.{zip_turn}
 use Rattle.netting.specs.Nets.{only, sum_below, member_of, weighed}
 use Rattle.netting.proofs.Sums.{sum_more}
 use Rattle.netting.proofs.Sizes.{sum-within, size-only, size_below}
 use Rattle.netting.proofs.members.member_net.Goals as goal
-
-pub loop-net-init : goal.loop-net-init
-loop-net-init g c = c.ZERO-sum.ensures ∙ g.met.F.Figure.zero_is_nothing
 
 pub plus-sum-requires : goal.plus-sum-requires
 plus-sum-requires g c =
@@ -49,17 +46,3 @@ loop-net-preserved g c =
     let len : length (c.loop-net.yielded ++ (c.in-Some.net, c.in-Some.member) ∷ []) ≡ a + 1 = length-append c.loop-net.yielded _ in
     let so : c.plus-sum.result ≡ sum_below m (a + 1) f = cc in
     subst (λ n. c.plus-sum.result ≡ sum_below m n f) (sym len) so
-
-pub returns : goal.returns
-returns g c =
-    let m = g.F.Figure.group in
-    let nets = c.args.nets.now in
-    let members = c.args.members.now in
-    let f : ℕ → g.row.F.Denot = λ a. only m (member_of members a) (get_or nets a m.none) c.args.whose in
-    let same = c.into_iter-net-iterator.ensures.into_iter_gives in
-    let e = zip_end nets members c.loop-net.yielded c.into_iter-net-iterator.result c.loop-net.net-iterator c.next.new.self c.next.result
-    (ap (λ s. s.a.rest.now) same ∙ ap (λ i. i.rest.now) c.zip-net-items.ensures.first ∙ c.iter.ensures.rest)
-    (ap (λ s. s.b.rest.now) same ∙ c.zip-net-items.ensures.second.0)
-    c.loop-net.yielded_by c.in-None.is c.next.ensures.steps in
-    let all : length c.loop-net.yielded ≡ length members = let p = c.requires.paired in grind arith in
-    c.loop-net.invariant ∙ ap (λ n. sum_below m n f) all

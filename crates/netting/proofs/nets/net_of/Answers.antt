@@ -1,14 +1,8 @@
-use Rattle.std.proofs.Common.{◌≤◌, take, ap, ◌∙◌, arith, take_all}
-use Rattle.netting.specs.Nets.{net_of, weight}
+use Rattle.std.proofs.Common.{◌≤◌, take, arith}
+use Rattle.netting.specs.Nets.{weight}
 use Rattle.netting.proofs.Sums.{net_more}
 use Rattle.netting.proofs.Sizes.{sum-within, size_share, size_net}
 use Rattle.netting.proofs.nets.net_of.Goals as goal
-
-pub share-requires : goal.share-requires
-share-requires g c =
-    let m = g.F.Figure.group in
-    let more = sum-within (λ e. m.size e.figure) c.args.entries.now c.loop-e.e-index c.e-item.result c.loop-e-test.true c.e-item.is in
-    omega arith
 
 pub plus-sum-requires : goal.plus-sum-requires
 plus-sum-requires g c =
@@ -26,6 +20,3 @@ loop-e-preserved g c =
     let more = net_more g.F.Figure.group g.met.F.Figure.lawful c.args.entries.now c.loop-e.e-index c.e-item.result c.args.account c.loop-e-test.true c.e-item.is in
     let inv = c.loop-e.invariant.1 in
     (omega arith, cc)
-
-pub returns : goal.returns
-returns g c = c.loop-e.invariant.1 ∙ ap (λ es. net_of g.F.Figure.group es c.args.account) (take_all _ _ c.loop-e-test.false)

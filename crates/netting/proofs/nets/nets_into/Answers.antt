@@ -1,15 +1,9 @@
 use Rattle.std.proofs.Common.{◌≡◌, ℕ, ◌<◌, length, get_or, sym, ◌∙◌, subst, arith}
 use Rattle.std.specs.List.{AllByRecursion}
-use Rattle.std.proofs.lemmas.List.Edits.{fill_by_more}
 use Rattle.netting.specs.Nets.{net_of, Within}
 use Rattle.netting.proofs.Sums.{balanced, together-sum}
 use Rattle.netting.proofs.Sizes.{nets_weigh}
 use Rattle.netting.proofs.nets.nets_into.Goals as goal
-
-pub loop-account-preserved : goal.loop-account-preserved
-loop-account-preserved g c k d h =
-    let f = net_of g.F.Figure.group c.args.entries.now in
-    rw c.net_of.ensures (fill_by_more f c.loop-account.nets c.loop-account.account d (omega arith) (λ j l. c.loop-account.invariant j d l) k h)
 
 pub returns : goal.returns
 returns g c =
