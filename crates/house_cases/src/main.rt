@@ -5,19 +5,18 @@
 //   diary K, swap NUMBER, session, live      what a caller may ask of the house
 #![tactic(auto)]
 
-use anyhow::{Context, anyhow};
+use anyhow::{Context, bail};
 use book::calls::{Offer, Reply, Request};
-use coupons::legs::Kind;
 use coupons::lines::Terms;
 use house::house::House;
 use refusal::Fault;
 use std::alloc::{AllocError, Global};
+use std::fmt::Write;
 use std::io::{BufRead, BufReader};
 use swaps::ends::{End, Mark};
-use swaps::state::State;
 use swaps::swap::Swap;
 
-// A word's number.
+// A word's number. Other programs have this function too: a crate for it would be longer than its one line.
 fn number(word: Option<&str>) -> anyhow::Result<i64> {
     Ok(word.context("a figure is missing")?.parse::<i64>()?)
 }
@@ -38,22 +37,16 @@ fn outcome(heap: Global, answer: Result<(), Fault>) -> Result<String, AllocError
 fn open(heap: Global, house: &mut House, figures: &str) -> anyhow::Result<String> {
     let mut words = figures.split(' ');
     let members = number(words.next())?;
-    let mut accounts = Vec::new(heap);
-    for word in words {
-        accounts.push(word.parse::<i64>()?)?;
-    }
+    let accounts: Vec<i64> = words.map(|word| number(Some(word))).try_collect(heap)?;
     Ok(outcome(heap, house.open(members, &accounts))?)
 }
 
 fn read_offer(figures: &str) -> anyhow::Result<Offer> {
     let mut words = figures.split(' ');
-    let long = number(words.next())?;
-    let short = number(words.next())?;
-    let letter = words.next().context("no kind")?;
     Ok(Offer {
-        long,
-        short,
-        kind: letter.chars().next().context("no kind")?,
+        long: number(words.next())?,
+        short: number(words.next())?,
+        kind: words.next().context("no kind")?.parse::<char>()?,
         millions: number(words.next())?,
         thousands: number(words.next())?,
         npv: number(words.next())?,
@@ -84,7 +77,7 @@ fn agreement(word: Option<&str>) -> anyhow::Result<bool> {
     match word {
         Some("yes") => Ok(true),
         Some("no") => Ok(false),
-        _ => Err(anyhow!("neither yes nor no")),
+        _ => bail!("neither yes nor no"),
     }
 }
 
@@ -105,48 +98,19 @@ const NOTHING: End = End {
     mark: Mark::Maturity,
 };
 
-fn shown_place(heap: Global, place: &End) -> Result<String, AllocError> {
-    let End {
-        session,
-        number,
-        mark,
-    } = *place;
-    if number == 0 {
-        return String::from_str(heap, " -");
-    }
-    let letter = mark.letter();
-    format!(in heap; " {session}:{number}:{letter}")
-}
-
 fn diary(heap: Global, house: &House, figures: &str) -> anyhow::Result<String> {
     let count = figures.parse::<u8>()?;
     let mut places = vec![in heap; NOTHING; count as usize]?;
     let filled = house.diary(&mut places);
     let mut text = format!(in heap; "filled={filled}")?;
-    for place in places.iter() {
-        text.push_str(shown_place(heap, place)?.as_str())?;
+    for place in &places {
+        if *place == NOTHING {
+            text.push_str(" -")?;
+        } else {
+            write!(text, " {place}")?;
+        }
     }
     Ok(text)
-}
-
-fn letter_of(kind: Kind) -> char {
-    match kind {
-        Kind::Irs => 'I',
-        Kind::Ois => 'O',
-        Kind::CrossCurrency => 'C',
-    }
-}
-
-fn shown_state(heap: Global, state: State) -> Result<String, AllocError> {
-    match state {
-        State::Plain => String::from_str(heap, "plain"),
-        State::Asked {
-            by,
-            payment,
-            session,
-        } => format!(in heap; "asked {by} {payment} {session}"),
-        State::Agreed { payment, session } => format!(in heap; "agreed {payment} {session}"),
-    }
 }
 
 fn shown_swap(heap: Global, swap: &Swap) -> Result<String, AllocError> {
@@ -165,10 +129,10 @@ fn shown_swap(heap: Global, swap: &Swap) -> Result<String, AllocError> {
         millions,
         thousands,
     } = terms;
-    let letter = letter_of(kind);
-    let state = shown_state(heap, state)?;
+    let millions = millions.get();
+    let thousands = thousands.get();
     format!(in heap;
-        "{long} {short} {letter} {millions} {thousands} {npv} {registered} {maturity} {state}"
+        "{long} {short} {kind} {millions} {thousands} {npv} {registered} {maturity} {state}"
     )
 }
 
@@ -185,7 +149,7 @@ fn question(heap: Global, house: &House, name: &str, figures: &str) -> anyhow::R
         "swap" => swap_by_number(heap, house, figures),
         "session" => Ok(house.current().to_string(heap)?),
         "live" => Ok(house.live().to_string(heap)?),
-        _ => Err(anyhow!("no such call")),
+        _ => bail!("no such call"),
     }
 }
 
