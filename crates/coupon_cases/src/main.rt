@@ -12,7 +12,7 @@ use coupons::plain::{alignment, dollars, simple};
 use std::alloc::{AllocError, Global};
 use std::io::{BufRead, BufReader};
 
-// A word's number. Other programs have this function too: a crate for it would be longer than its one line.
+// A word's number. Another program has this function too: a crate for the two to share would be longer than the function.
 fn number(word: Option<&str>) -> anyhow::Result<i64> {
     Ok(word.context("a figure is missing")?.parse::<i64>()?)
 }
@@ -43,12 +43,12 @@ fn told(
     match coupon(terms, trm, line, observations) {
         Ok(centavos) => {
             let centavos = centavos.get();
-            format!(in heap; "coupon={centavos}\n")
+            format!(in heap; "coupon={centavos}")
         }
         Err(fault) => {
             let number = fault.refusal().number();
             let observation = fault.observation();
-            format!(in heap; "fault={number} observation={observation}\n")
+            format!(in heap; "fault={number} observation={observation}")
         }
     }
 }
@@ -89,7 +89,7 @@ fn formula(heap: Global, name: &str, figures: &str) -> anyhow::Result<String> {
         _ => bail!("no such formula"),
     };
     let centavos = centavos.map_or(i64::MIN, Centavos::get);
-    Ok(format!(in heap; "{centavos}\n")?)
+    Ok(centavos.to_string(heap)?)
 }
 
 fn answer(heap: Global, case: &str) -> anyhow::Result<String> {
@@ -105,7 +105,7 @@ fn main(rt: HostRuntime) -> anyhow::Result<()> {
     let heap = rt.alloc();
     for case in BufReader::new(heap, rt.stdin())?.lines(heap) {
         let case = case?;
-        rt.print(answer(heap, case.as_str())?)?;
+        rt.println(answer(heap, case.as_str())?)?;
     }
     Ok(())
 }

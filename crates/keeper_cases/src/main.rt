@@ -13,6 +13,7 @@ use std::alloc::Global;
 use std::fmt;
 use std::fmt::Write;
 use std::io::{BufRead, BufReader};
+use std::str::FromStr;
 
 #[derive(Clone, Copy, Debug, PartialEq, Eq)]
 pub struct Runner {
@@ -44,12 +45,16 @@ impl fmt::Display for Runner {
     }
 }
 
-fn read_runner(word: &str) -> anyhow::Result<Runner> {
-    let (time, bib) = word.split_once(':').context("no runner")?;
-    Ok(Runner {
-        time: time.parse::<i64>()?,
-        bib: bib.parse::<u32>()?,
-    })
+impl FromStr for Runner {
+    type Err = anyhow::Error;
+
+    fn from_str(word: &str) -> anyhow::Result<Runner> {
+        let (time, bib) = word.split_once(':').context("no runner")?;
+        Ok(Runner {
+            time: time.parse::<i64>()?,
+            bib: bib.parse::<u32>()?,
+        })
+    }
 }
 
 // A place that holds nobody.
@@ -71,7 +76,7 @@ fn shown(heap: Global, filled: usize, places: &[Runner]) -> anyhow::Result<Strin
 fn answer(heap: Global, case: &str) -> anyhow::Result<String> {
     let mut words = case.split(' ');
     let count = words.next().context("no count")?.parse::<u8>()?;
-    let runners: Vec<Runner> = words.map(read_runner).try_collect(heap)?;
+    let runners: Vec<Runner> = words.map(Runner::from_str).try_collect(heap)?;
     let mut places = vec![in heap; NOBODY; count as usize]?;
     let filled = first_of(&runners, &mut places);
     let at_once = shown(heap, filled, &places)?;
