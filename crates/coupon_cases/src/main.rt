@@ -3,7 +3,7 @@
 //   fixed, variable, dollars or alignment with their figures: what a C host is answered
 #![tactic(auto)]
 
-use anyhow::{Context, anyhow};
+use anyhow::{Context, bail};
 use coupons::amounts::{Centavos, Nominal, Trm};
 use coupons::legs::{CouponLine, Kind};
 use coupons::lines::{Terms, coupon};
@@ -12,7 +12,7 @@ use coupons::plain::{alignment, dollars, simple};
 use std::alloc::{AllocError, Global};
 use std::io::{BufRead, BufReader};
 
-// A word's number.
+// A word's number. Another program has this function too: a crate for the two to share would be longer than the function.
 fn number(word: Option<&str>) -> anyhow::Result<i64> {
     Ok(word.context("a figure is missing")?.parse::<i64>()?)
 }
@@ -43,12 +43,12 @@ fn told(
     match coupon(terms, trm, line, observations) {
         Ok(centavos) => {
             let centavos = centavos.get();
-            format!(in heap; "coupon={centavos}\n")
+            format!(in heap; "coupon={centavos}")
         }
         Err(fault) => {
             let number = fault.refusal().number();
             let observation = fault.observation();
-            format!(in heap; "fault={number} observation={observation}\n")
+            format!(in heap; "fault={number} observation={observation}")
         }
     }
 }
@@ -59,22 +59,14 @@ fn line(heap: Global, figures: &str) -> anyhow::Result<String> {
     let millions = number(words.next())?;
     let thousands = number(words.next())?;
     let trm = number(words.next())?;
-    let letter = words
-        .next()
-        .context("no letter")?
-        .chars()
-        .next()
-        .context("no letter")?;
+    let letter = words.next().context("no letter")?.parse::<char>()?;
     let figures = (number(words.next())?, number(words.next())?);
     let line = CouponLine {
         swap: 1,
         letter,
         figures,
     };
-    let mut observations = Vec::new(heap);
-    for word in words {
-        observations.push(observation(word)?)?;
-    }
+    let observations: Vec<Observation> = words.map(observation).try_collect(heap)?;
     let terms = Terms {
         kind,
         millions: Nominal::new(millions).context("a figure is outside its limits")?,
@@ -94,10 +86,10 @@ fn formula(heap: Global, name: &str, figures: &str) -> anyhow::Result<String> {
         "fixed" | "variable" => simple(a, b, c),
         "dollars" => dollars(a, b, c, number(words.next())?),
         "alignment" => alignment(a, b, c),
-        _ => return Err(anyhow!("no such formula")),
+        _ => bail!("no such formula"),
     };
     let centavos = centavos.map_or(i64::MIN, Centavos::get);
-    Ok(format!(in heap; "{centavos}\n")?)
+    Ok(centavos.to_string(heap)?)
 }
 
 fn answer(heap: Global, case: &str) -> anyhow::Result<String> {
@@ -113,7 +105,7 @@ fn main(rt: HostRuntime) -> anyhow::Result<()> {
     let heap = rt.alloc();
     for case in BufReader::new(heap, rt.stdin())?.lines(heap) {
         let case = case?;
-        rt.print(answer(heap, case.as_str())?)?;
+        rt.println(answer(heap, case.as_str())?)?;
     }
     Ok(())
 }

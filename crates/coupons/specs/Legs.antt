@@ -1,5 +1,5 @@
 -- Legs by their letters, and the kinds of swaps that have them.
-use Rattle.std.specs.Prelude.{ℕ, Bool, true, false, cond, ℤ, Some, None, Ok, Err, Option, Result, ◌==◌}
+use Rattle.std.specs.Prelude.{ℕ, Bool, true, false, cond, ℤ, Some, None, Ok, Err, Option, Result, ◌≡◌, ◌==◌}
 use Rattle.refusal.specs.declared.Refusal.{Refusal}
 use Rattle.refusal.specs.declared.Refusal.TheVariants.{UnknownKind}
 use Rattle.coupons.specs.declared.legs.Kind.{Kind}
@@ -10,6 +10,16 @@ use Rattle.coupons.specs.declared.legs.Leg.TheVariants.{Fixed, Variable, Dollars
 -- the kind of a letter: I, O or C
 abbrev pub kind_of : ℕ → Result Kind Refusal
 kind_of letter = cond (letter == 73) (Ok Irs) (cond (letter == 79) (Ok Ois) (cond (letter == 67) (Ok CrossCurrency) (Err UnknownKind)))
+
+-- the letter of a kind
+abbrev pub letter_of_kind : Kind → ℕ
+letter_of_kind Irs = 73
+letter_of_kind Ois = 79
+letter_of_kind CrossCurrency = 67
+
+-- each kind is that of its letter
+abbrev pub KindsReadBack : Type 0
+KindsReadBack = (kind : Kind) → kind_of (letter_of_kind kind) ≡ Ok kind
 
 -- the leg of a letter, F, V, U or O, and its two figures
 abbrev pub leg_of : ℕ → ℤ → ℤ → Option Leg

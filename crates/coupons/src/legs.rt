@@ -1,8 +1,9 @@
 // The kinds of swaps, and the legs that their coupon lines may be of.
-ghost use Rattle.std.specs.Prelude.{◌≡◌};
-ghost use Rattle.coupons.specs.Legs.{kind_of, leg_of, of_kind};
+ghost use Rattle.std.specs.Prelude.{◌≡◌, [], ◌∷◌, Some};
+ghost use Rattle.coupons.specs.Legs.{kind_of, letter_of_kind, KindsReadBack, leg_of, of_kind};
 
 use refusal::Refusal;
+use std::fmt;
 
 // An interest-rate swap, an overnight-index swap, a cross-currency swap.
 #[derive(Clone, Copy, Debug, PartialEq, Eq)]
@@ -26,6 +27,24 @@ impl TryFrom<char> for Kind {
         }
     }
 }
+
+// A kind's letter.
+impl fmt::Display for Kind {
+    ghost output = { λ kind. Some (letter_of_kind kind ∷ []) };
+
+    fn fmt<W: fmt::Write>(&self, f: &mut fmt::Formatter<W>) -> fmt::Result {
+        f.write_str(match self {
+            Kind::Irs => "I",
+            Kind::Ois => "O",
+            Kind::CrossCurrency => "C",
+        })
+    }
+}
+
+// What a kind prints is read as that kind again.
+pub fn kind_laws()
+    ensures { KindsReadBack }
+{}
 
 // A leg and its own figures: a rate in points with spread and its days, or a range of observations.
 #[derive(Clone, Copy, Debug, PartialEq, Eq)]

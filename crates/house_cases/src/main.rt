@@ -5,23 +5,23 @@
 //   diary K, swap NUMBER, session, live      what a caller may ask of the house
 #![tactic(auto)]
 
-use anyhow::{Context, anyhow};
+use anyhow::{Context, bail};
 use book::calls::{Offer, Reply, Request};
-use coupons::legs::Kind;
 use coupons::lines::Terms;
 use house::house::House;
 use refusal::Fault;
 use std::alloc::{AllocError, Global};
+use std::fmt::Write;
 use std::io::{BufRead, BufReader};
 use swaps::ends::{End, Mark};
-use swaps::state::State;
 use swaps::swap::Swap;
 
-// A word's number.
+// A word's number. Another program has this function too: a crate for the two to share would be longer than the function.
 fn number(word: Option<&str>) -> anyhow::Result<i64> {
     Ok(word.context("a figure is missing")?.parse::<i64>()?)
 }
 
+// The number and the line of a refusal. Another program has this function too, as the one above.
 fn refused(heap: Global, fault: &Fault) -> Result<String, AllocError> {
     let number = fault.refusal().number();
     let line = fault.line();
@@ -35,25 +35,12 @@ fn outcome(heap: Global, answer: Result<(), Fault>) -> Result<String, AllocError
     }
 }
 
-fn open(heap: Global, house: &mut House, figures: &str) -> anyhow::Result<String> {
-    let mut words = figures.split(' ');
-    let members = number(words.next())?;
-    let mut accounts = Vec::new(heap);
-    for word in words {
-        accounts.push(word.parse::<i64>()?)?;
-    }
-    Ok(outcome(heap, house.open(members, &accounts))?)
-}
-
 fn read_offer(figures: &str) -> anyhow::Result<Offer> {
     let mut words = figures.split(' ');
-    let long = number(words.next())?;
-    let short = number(words.next())?;
-    let letter = words.next().context("no kind")?;
     Ok(Offer {
-        long,
-        short,
-        kind: letter.chars().next().context("no kind")?,
+        long: number(words.next())?,
+        short: number(words.next())?,
+        kind: words.next().context("no kind")?.parse::<char>()?,
         millions: number(words.next())?,
         thousands: number(words.next())?,
         npv: number(words.next())?,
@@ -61,41 +48,12 @@ fn read_offer(figures: &str) -> anyhow::Result<Offer> {
     })
 }
 
-fn accept(heap: Global, house: &mut House, figures: &str) -> anyhow::Result<String> {
-    let offer = read_offer(figures)?;
-    match house.accept(&offer) {
-        Ok(number) => Ok(format!(in heap; "number={number}")?),
-        Err(fault) => Ok(refused(heap, &fault)?),
-    }
-}
-
-fn ask(heap: Global, house: &mut House, figures: &str) -> anyhow::Result<String> {
-    let mut words = figures.split(' ');
-    let request = Request {
-        number: number(words.next())?,
-        account: number(words.next())?,
-        payment: number(words.next())?,
-        session: number(words.next())?,
-    };
-    Ok(outcome(heap, house.ask(&request))?)
-}
-
 fn agreement(word: Option<&str>) -> anyhow::Result<bool> {
     match word {
         Some("yes") => Ok(true),
         Some("no") => Ok(false),
-        _ => Err(anyhow!("neither yes nor no")),
+        _ => bail!("neither yes nor no"),
     }
-}
-
-fn answer(heap: Global, house: &mut House, figures: &str) -> anyhow::Result<String> {
-    let mut words = figures.split(' ');
-    let reply = Reply {
-        number: number(words.next())?,
-        account: number(words.next())?,
-        agrees: agreement(words.next())?,
-    };
-    Ok(outcome(heap, house.answer(&reply))?)
 }
 
 // A place that holds no end: no swap has number 0.
@@ -104,50 +62,6 @@ const NOTHING: End = End {
     number: 0,
     mark: Mark::Maturity,
 };
-
-fn shown_place(heap: Global, place: &End) -> Result<String, AllocError> {
-    let End {
-        session,
-        number,
-        mark,
-    } = *place;
-    if number == 0 {
-        return String::from_str(heap, " -");
-    }
-    let letter = mark.letter();
-    format!(in heap; " {session}:{number}:{letter}")
-}
-
-fn diary(heap: Global, house: &House, figures: &str) -> anyhow::Result<String> {
-    let count = figures.parse::<u8>()?;
-    let mut places = vec![in heap; NOTHING; count as usize]?;
-    let filled = house.diary(&mut places);
-    let mut text = format!(in heap; "filled={filled}")?;
-    for place in places.iter() {
-        text.push_str(shown_place(heap, place)?.as_str())?;
-    }
-    Ok(text)
-}
-
-fn letter_of(kind: Kind) -> char {
-    match kind {
-        Kind::Irs => 'I',
-        Kind::Ois => 'O',
-        Kind::CrossCurrency => 'C',
-    }
-}
-
-fn shown_state(heap: Global, state: State) -> Result<String, AllocError> {
-    match state {
-        State::Plain => String::from_str(heap, "plain"),
-        State::Asked {
-            by,
-            payment,
-            session,
-        } => format!(in heap; "asked {by} {payment} {session}"),
-        State::Agreed { payment, session } => format!(in heap; "agreed {payment} {session}"),
-    }
-}
 
 fn shown_swap(heap: Global, swap: &Swap) -> Result<String, AllocError> {
     let Swap {
@@ -165,47 +79,103 @@ fn shown_swap(heap: Global, swap: &Swap) -> Result<String, AllocError> {
         millions,
         thousands,
     } = terms;
-    let letter = letter_of(kind);
-    let state = shown_state(heap, state)?;
+    let millions = millions.get();
+    let thousands = thousands.get();
     format!(in heap;
-        "{long} {short} {letter} {millions} {thousands} {npv} {registered} {maturity} {state}"
+        "{long} {short} {kind} {millions} {thousands} {npv} {registered} {maturity} {state}"
     )
 }
 
-fn swap_by_number(heap: Global, house: &House, figures: &str) -> anyhow::Result<String> {
-    match house.swap(figures.parse::<i64>()?) {
-        Some(swap) => Ok(shown_swap(heap, &swap)?),
-        None => Ok(String::from_str(heap, "none")?),
-    }
+// The house that a script calls, and the heap of the answers' texts.
+#[derive(Drop)]
+struct Script {
+    heap: Global,
+    house: House,
 }
 
-fn question(heap: Global, house: &House, name: &str, figures: &str) -> anyhow::Result<String> {
-    match name {
-        "diary" => diary(heap, house, figures),
-        "swap" => swap_by_number(heap, house, figures),
-        "session" => Ok(house.current().to_string(heap)?),
-        "live" => Ok(house.live().to_string(heap)?),
-        _ => Err(anyhow!("no such call")),
+impl Script {
+    fn open(&mut self, figures: &str) -> anyhow::Result<String> {
+        let mut words = figures.split(' ');
+        let members = number(words.next())?;
+        let accounts: Vec<i64> = words.map(|word| number(Some(word))).try_collect(self.heap)?;
+        Ok(outcome(self.heap, self.house.open(members, &accounts))?)
     }
-}
 
-fn told(heap: Global, house: &mut House, call: &str) -> anyhow::Result<String> {
-    let (name, figures) = call.split_once(' ').unwrap_or((call, ""));
-    match name {
-        "open" => open(heap, house, figures),
-        "accept" => accept(heap, house, figures),
-        "ask" => ask(heap, house, figures),
-        "answer" => answer(heap, house, figures),
-        _ => question(heap, house, name, figures),
+    fn accept(&mut self, figures: &str) -> anyhow::Result<String> {
+        let offer = read_offer(figures)?;
+        match self.house.accept(&offer) {
+            Ok(number) => Ok(format!(in self.heap; "number={number}")?),
+            Err(fault) => Ok(refused(self.heap, &fault)?),
+        }
+    }
+
+    fn ask(&mut self, figures: &str) -> anyhow::Result<String> {
+        let mut words = figures.split(' ');
+        let request = Request {
+            number: number(words.next())?,
+            account: number(words.next())?,
+            payment: number(words.next())?,
+            session: number(words.next())?,
+        };
+        Ok(outcome(self.heap, self.house.ask(&request))?)
+    }
+
+    fn answer(&mut self, figures: &str) -> anyhow::Result<String> {
+        let mut words = figures.split(' ');
+        let reply = Reply {
+            number: number(words.next())?,
+            account: number(words.next())?,
+            agrees: agreement(words.next())?,
+        };
+        Ok(outcome(self.heap, self.house.answer(&reply))?)
+    }
+
+    fn diary(&self, figures: &str) -> anyhow::Result<String> {
+        let count = figures.parse::<u8>()?;
+        let mut places = vec![in self.heap; NOTHING; count as usize]?;
+        let filled = self.house.diary(&mut places);
+        let mut text = format!(in self.heap; "filled={filled}")?;
+        for place in &places {
+            if *place == NOTHING {
+                text.push_str(" -")?;
+            } else {
+                write!(text, " {place}")?;
+            }
+        }
+        Ok(text)
+    }
+
+    fn swap(&self, figures: &str) -> anyhow::Result<String> {
+        match self.house.swap(figures.parse::<i64>()?) {
+            Some(swap) => Ok(shown_swap(self.heap, &swap)?),
+            None => Ok(String::from_str(self.heap, "none")?),
+        }
+    }
+
+    // What the house answers to a call.
+    fn told(&mut self, call: &str) -> anyhow::Result<String> {
+        let (name, figures) = call.split_once(' ').unwrap_or((call, ""));
+        match name {
+            "open" => self.open(figures),
+            "accept" => self.accept(figures),
+            "ask" => self.ask(figures),
+            "answer" => self.answer(figures),
+            "diary" => self.diary(figures),
+            "swap" => self.swap(figures),
+            "session" => Ok(self.house.current().to_string(self.heap)?),
+            "live" => Ok(self.house.live().to_string(self.heap)?),
+            _ => bail!("no such call"),
+        }
     }
 }
 
 fn main(rt: HostRuntime) -> anyhow::Result<()> {
     let heap = rt.alloc();
-    let mut house = House::new(heap)?;
+    let house = House::new(heap)?;
+    let mut script = Script { heap, house };
     for call in BufReader::new(heap, rt.stdin())?.lines(heap) {
         let call = call?;
-        rt.println(told(heap, &mut house, call.as_str())?)?;
+        rt.println(script.told(call.as_str())?)?;
     }
     Ok(())
 }

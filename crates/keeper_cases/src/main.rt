@@ -3,13 +3,17 @@
 // A line of the answer has the count of the filled places and then all K places, those not filled as `-`.
 #![tactic(auto)]
 
-ghost use Rattle.keeper_cases.specs.Runners.{faster};
+ghost use Rattle.std.specs.Prelude.{Some};
+ghost use Rattle.keeper_cases.specs.Runners.{faster, runner_text};
 ghost use Rattle.keeper_cases.specs.RunnerOrderedLemmas.{one-first, carries, level};
 
 use anyhow::Context;
 use keeper::{Keeper, Ordered, first_of};
 use std::alloc::Global;
+use std::fmt;
+use std::fmt::Write;
 use std::io::{BufRead, BufReader};
+use std::str::FromStr;
 
 #[derive(Clone, Copy, Debug, PartialEq, Eq)]
 pub struct Runner {
@@ -31,12 +35,26 @@ impl Ordered for Runner {
     }
 }
 
-fn read_runner(word: &str) -> anyhow::Result<Runner> {
-    let (time, bib) = word.split_once(':').context("no runner")?;
-    Ok(Runner {
-        time: time.parse::<i64>()?,
-        bib: bib.parse::<u32>()?,
-    })
+// time:bib
+impl fmt::Display for Runner {
+    ghost output = { λ runner. Some (runner_text runner) };
+
+    fn fmt<W: fmt::Write>(&self, f: &mut fmt::Formatter<W>) -> fmt::Result {
+        let Runner { time, bib } = *self;
+        write!(f, "{time}:{bib}")
+    }
+}
+
+impl FromStr for Runner {
+    type Err = anyhow::Error;
+
+    fn from_str(word: &str) -> anyhow::Result<Runner> {
+        let (time, bib) = word.split_once(':').context("no runner")?;
+        Ok(Runner {
+            time: time.parse::<i64>()?,
+            bib: bib.parse::<u32>()?,
+        })
+    }
 }
 
 // A place that holds nobody.
@@ -45,11 +63,10 @@ const NOBODY: Runner = Runner { time: 0, bib: 0 };
 fn shown(heap: Global, filled: usize, places: &[Runner]) -> anyhow::Result<String> {
     let mut text = format!(in heap; "{filled}")?;
     for place in places {
-        let Runner { time, bib } = *place;
-        if bib == 0 {
+        if *place == NOBODY {
             text.push_str(" -")?;
         } else {
-            text.push_str(format!(in heap; " {time}:{bib}")?.as_str())?;
+            write!(text, " {place}")?;
         }
     }
     Ok(text)
@@ -59,18 +76,15 @@ fn shown(heap: Global, filled: usize, places: &[Runner]) -> anyhow::Result<Strin
 fn answer(heap: Global, case: &str) -> anyhow::Result<String> {
     let mut words = case.split(' ');
     let count = words.next().context("no count")?.parse::<u8>()?;
-    let mut runners = Vec::new(heap);
-    for word in words {
-        runners.push(read_runner(word)?)?;
-    }
+    let runners: Vec<Runner> = words.map(Runner::from_str).try_collect(heap)?;
     let mut places = vec![in heap; NOBODY; count as usize]?;
     let filled = first_of(&runners, &mut places);
     let at_once = shown(heap, filled, &places)?;
     let one_by_one = put_all(heap, &runners, count)?;
-    if at_once.as_str() == one_by_one.as_str() {
-        Ok(format!(in heap; "{at_once}\n")?)
+    if at_once == one_by_one {
+        Ok(at_once)
     } else {
-        Ok(format!(in heap; "{at_once} but {one_by_one}\n")?)
+        Ok(format!(in heap; "{at_once} but {one_by_one}")?)
     }
 }
 
@@ -88,7 +102,7 @@ fn main(rt: HostRuntime) -> anyhow::Result<()> {
     let heap = rt.alloc();
     for case in BufReader::new(heap, rt.stdin())?.lines(heap) {
         let case = case?;
-        rt.print(answer(heap, case.as_str())?)?;
+        rt.println(answer(heap, case.as_str())?)?;
     }
     Ok(())
 }

@@ -3,3 +3,4 @@ pub mod Swaps
 pub mod Limits
 pub mod Ends
 pub mod Sooner
+pub mod Texts

@@ -1,8 +1,10 @@
 // A swap's state, and what an ask, a yes or a no makes of it.
-ghost use Rattle.std.specs.Prelude.{◌≡◌};
+ghost use Rattle.std.specs.Prelude.{◌≡◌, Some};
 ghost use Rattle.swaps.specs.States.{other, after_event};
+ghost use Rattle.swaps.specs.Texts.{state_text};
 
 use refusal::{Refusal, demand};
+use std::fmt;
 
 // Plain; asked to end early, by an account, for a payment to the long side, in a session; or agreed to.
 #[derive(Clone, Copy, Debug, PartialEq, Eq)]
@@ -10,6 +12,23 @@ pub enum State {
     Plain,
     Asked { by: u32, payment: i64, session: u32 },
     Agreed { payment: i64, session: u32 },
+}
+
+// The state's name, and its figures in the order above.
+impl fmt::Display for State {
+    ghost output = { λ state. Some (state_text state) };
+
+    fn fmt<W: fmt::Write>(&self, f: &mut fmt::Formatter<W>) -> fmt::Result {
+        match *self {
+            State::Plain => f.write_str("plain"),
+            State::Asked {
+                by,
+                payment,
+                session,
+            } => write!(f, "asked {by} {payment} {session}"),
+            State::Agreed { payment, session } => write!(f, "agreed {payment} {session}"),
+        }
+    }
 }
 
 // What a party does about an early end.
