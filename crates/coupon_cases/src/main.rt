@@ -59,7 +59,12 @@ fn line(heap: Global, figures: &str) -> anyhow::Result<String> {
     let millions = number(words.next())?;
     let thousands = number(words.next())?;
     let trm = number(words.next())?;
-    let letter = words.next().context("no letter")?.parse::<char>()?;
+    let letter = words
+        .next()
+        .context("no letter")?
+        .chars()
+        .next()
+        .context("no letter")?;
     let figures = (number(words.next())?, number(words.next())?);
     let line = CouponLine {
         swap: 1,
@@ -82,6 +87,7 @@ fn formula(heap: Global, name: &str, figures: &str) -> anyhow::Result<String> {
     let a = number(words.next())?;
     let b = number(words.next())?;
     let c = number(words.next())?;
+    // The name is a word of the case.
     let centavos = match name {
         "fixed" | "variable" => simple(a, b, c),
         "dollars" => dollars(a, b, c, number(words.next())?),

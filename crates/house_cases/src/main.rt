@@ -21,26 +21,22 @@ fn number(word: Option<&str>) -> anyhow::Result<i64> {
     Ok(word.context("a figure is missing")?.parse::<i64>()?)
 }
 
-// The number and the line of a refusal. Another program has this function too, as the one above.
-fn refused(heap: Global, fault: &Fault) -> Result<String, AllocError> {
-    let number = fault.refusal().number();
-    let line = fault.line();
-    format!(in heap; "fault={number} line={line}")
-}
-
 fn outcome(heap: Global, answer: Result<(), Fault>) -> Result<String, AllocError> {
     match answer {
         Ok(()) => String::from_str(heap, "granted"),
-        Err(fault) => refused(heap, &fault),
+        Err(fault) => fault.to_string(heap),
     }
 }
 
 fn read_offer(figures: &str) -> anyhow::Result<Offer> {
     let mut words = figures.split(' ');
+    let long = number(words.next())?;
+    let short = number(words.next())?;
+    let letter = words.next().context("no kind")?;
     Ok(Offer {
-        long: number(words.next())?,
-        short: number(words.next())?,
-        kind: words.next().context("no kind")?.parse::<char>()?,
+        long,
+        short,
+        kind: letter.chars().next().context("no kind")?,
         millions: number(words.next())?,
         thousands: number(words.next())?,
         npv: number(words.next())?,
@@ -105,7 +101,7 @@ impl Script {
         let offer = read_offer(figures)?;
         match self.house.accept(&offer) {
             Ok(number) => Ok(format!(in self.heap; "number={number}")?),
-            Err(fault) => Ok(refused(self.heap, &fault)?),
+            Err(fault) => Ok(fault.to_string(self.heap)?),
         }
     }
 
@@ -155,6 +151,7 @@ impl Script {
     // What the house answers to a call.
     fn told(&mut self, call: &str) -> anyhow::Result<String> {
         let (name, figures) = call.split_once(' ').unwrap_or((call, ""));
+        // The name is a word of the script.
         match name {
             "open" => self.open(figures),
             "accept" => self.accept(figures),

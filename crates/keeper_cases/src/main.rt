@@ -57,13 +57,13 @@ impl FromStr for Runner {
     }
 }
 
-// A place that holds nobody.
+// A place that holds nobody: bib 0 is nobody's.
 const NOBODY: Runner = Runner { time: 0, bib: 0 };
 
 fn shown(heap: Global, filled: usize, places: &[Runner]) -> anyhow::Result<String> {
     let mut text = format!(in heap; "{filled}")?;
     for place in places {
-        if *place == NOBODY {
+        if place.bib == NOBODY.bib {
             text.push_str(" -")?;
         } else {
             write!(text, " {place}")?;

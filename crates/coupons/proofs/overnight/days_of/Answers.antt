@@ -9,9 +9,6 @@ use Rattle.coupons.proofs.overnight.days_of.Goals as goal
 blank : Observation
 blank = record { rate = pos 0; days = pos 0 }
 
-pub loop-i-init : goal.loop-i-init
-loop-i-init c = ap (λ d. days_from 1 d c.args.window.observations.now) c.of-days.ensures
-
 pub returns-in_err-days : goal.returns-in_err-days
 unfolding blank
 returns-in_err-days c =

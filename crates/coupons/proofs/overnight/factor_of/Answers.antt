@@ -10,11 +10,6 @@ use Rattle.coupons.proofs.overnight.factor_of.Goals as goal
 blank : Observation
 blank = record { rate = pos 0; days = pos 0 }
 
-pub loop-i-init : goal.loop-i-init
-loop-i-init c =
-    let os = c.args.window.observations.now in
-    (ap (λ f. factor_checks 1 f os) c.start-factor.ensures, ap (λ f. compounded f os) c.start-factor.ensures)
-
 pub returns-in_err-factor : goal.returns-in_err-factor
 unfolding blank
 returns-in_err-factor c =

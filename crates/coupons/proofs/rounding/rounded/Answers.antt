@@ -32,12 +32,6 @@ up q h = to_z-of_z w64 _ (up_fits q h) ∙ ap (λ x. x +ℤ pos 1) (same q h)
 down : (q : ℤ) → nat_abs q ≤ 9000000000000000000 → to_z w64 (of_z w64 (to_z w64 (of_z w64 q) -ℤ pos 1)) ≡ q -ℤ pos 1
 down q h = to_z-of_z w64 _ (down_fits q h) ∙ ap (λ x. x -ℤ pos 1) (same q h)
 
-pub overflow_add-result : goal.overflow_add-result
-overflow_add-result c = up_fits c.divided-quotient.result.0 (small (goal.at.overflow_add-result c).After-divided-quotient)
-
-pub overflow_sub-result : goal.overflow_sub-result
-overflow_sub-result c = down_fits c.divided-quotient.result.0 (small (goal.at.overflow_sub-result c).After-divided-quotient)
-
 pub returns-then-rest-divisor : goal.returns-then-rest-divisor
 returns-then-rest-divisor c =
     let d = c.args.divisor in

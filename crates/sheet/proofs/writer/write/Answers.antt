@@ -1,14 +1,11 @@
-use Rattle.refusal.specs.declared.Refusal.TheVariants.{ListLength}
-use Rattle.std.proofs.Common.{◌≡◌, leb, true, length, nat_abs, is_ok, Err, sym, refl, ap, ◌∙◌, arith, w64}
-use Rattle.refusal.specs.Checks.{raised, check}
+use Rattle.std.proofs.Common.{◌≡◌, true, length, nat_abs, is_ok, sym, ap, ◌∙◌, arith, w64}
 use Rattle.std.proofs.lemmas.List.{take_at}
-use Rattle.std.proofs.lemmas.Result.{err_from_is_err_and}
 use Rattle.std.proofs.lemmas.Int.{ints, to_z-of_z}
 use Rattle.sheet.specs.Reading.{reads}
 use Rattle.sheet.specs.Text.{text}
-use Rattle.sheet.specs.Writing.{sendable, Sendable, filled}
+use Rattle.sheet.specs.Writing.{sendable, Sendable}
 use Rattle.sheet.proofs.Complete.{complete}
-use Rattle.sheet.proofs.Writes.{granted, refused, sendable_tells}
+use Rattle.sheet.proofs.Writes.{sendable_tells}
 use Rattle.sheet.proofs.writer.write.Goals as goal
 use Rattle.sheet.proofs.writer.write.Goals.{In_ok-check_figures, After-compose-page}
 
@@ -35,23 +32,6 @@ compose-page-requires c =
 -- the page holds the text
 whole : (c : After-compose-page) → c.compose-page.result.bytes ≡ text (nat_abs c.args.session) c.args.nets.now
 whole c = c.compose-page.ensures ∙ ap (λ z. text (nat_abs z) c.args.nets.now) (to_z-of_z w64 c.args.session c.ranges.session)
-
-pub returns-in_err-check_room : goal.returns-in_err-check_room
-returns-in_err-check_room c =
-    let p = err_from_is_err_and c.from_residual-in_err-check_room.result c.from_residual-in_err-check_room.ensures.1 in
-    let sheet = text (nat_abs c.args.session) c.args.nets.now in
-    let long = ap length (whole (goal.at.returns-in_err-check_room c).After-compose-page) in
-    let w = refused c.args.session c.args.nets.now (length c.args.buffer.now) _ c.in_err-check_room.field-0.0 long (passed (goal.at.returns-in_err-check_room c).In_ok-check_figures) c.in_err-check_room.ensures in
-    record { answer = p.1 ∙ ap Err p.2 ∙ sym (ap raised w); after = sym (ap (λ r. filled r sheet c.args.buffer.now) w); reads_back = rw p.1 tt }
-
-pub returns-clause-after : goal.returns-clause-after
-returns-clause-after c =
-    let page = whole (goal.at.returns-clause-after c).After-compose-page in
-    let copied : c.copy_from_slice.new.self ≡ text (nat_abs c.args.session) c.args.nets.now = c.copy_from_slice.ensures.after ∙ c.as_bytes.ensures.value ∙ c.deref.ensures.0 ∙ page in
-    let long = c.len-len.ensures.value ∙ ap length page in
-    let room = ap is_ok c.in_ok-check_room.ensures ∙ ap (λ k. is_ok (check (leb k (length c.args.buffer.now)) ListLength)) (sym c.len-len.ensures.value) in
-    let w = granted c.args.session c.args.nets.now (length c.args.buffer.now) c.len-len.result long (passed (goal.at.returns-clause-after c).In_ok-check_figures) room in
-    rw (copied, w) refl
 
 pub returns-clause-reads_back : goal.returns-clause-reads_back
 returns-clause-reads_back c =
