@@ -107,6 +107,7 @@ fn answer(heap: Global, case: &str) -> anyhow::Result<String> {
     }
 }
 
+// Each program has this loop of its own: a shared one would take the call as a closure, and be longer.
 fn main(rt: HostRuntime) -> anyhow::Result<()> {
     let heap = rt.alloc();
     for case in BufReader::new(heap, rt.stdin())?.lines(heap) {

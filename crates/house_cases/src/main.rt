@@ -52,13 +52,14 @@ fn agreement(word: Option<&str>) -> anyhow::Result<bool> {
     }
 }
 
-// A place that holds no end: no swap has number 0.
+// A place that holds no end: a diary's places hold ends, and no swap has number 0.
 const NOTHING: End = End {
     session: 0,
     number: 0,
     mark: Mark::Maturity,
 };
 
+// What the script prints of a swap: the answer's own order of fields, so no `Display` of swaps.
 fn shown_swap(heap: Global, swap: &Swap) -> Result<String, AllocError> {
     let Swap {
         long,

@@ -57,7 +57,7 @@ impl FromStr for Runner {
     }
 }
 
-// A place that holds nobody: bib 0 is nobody's.
+// A place that holds nobody: a keeper's places hold entries, which an `Option` is not, so bib 0 is nobody's.
 const NOBODY: Runner = Runner { time: 0, bib: 0 };
 
 fn shown(heap: Global, filled: usize, places: &[Runner]) -> anyhow::Result<String> {
