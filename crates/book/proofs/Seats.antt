@@ -1,28 +1,12 @@
 -- The members of accounts, one after the other.
-use Rattle.std.proofs.Common.{◌≡◌, ℕ, zero, suc, ◌+◌, ◌<◌, ◌≤◌, true, leb, List, [], ◌∷◌, map, length, get_or, drop, ℤ, pos, nat_abs, Ok, Err, Result, sym, ap, ◌∙◌, arith}
-use Rattle.std.proofs.lemmas.List.{at_drop_more, length-map, get_or-map}
+use Rattle.std.proofs.Common.{◌≡◌, ℕ, zero, suc, ◌+◌, ◌<◌, ◌≤◌, true, leb, List, [], ◌∷◌, map, length, get_or, ℤ, pos, nat_abs, Ok, ap, ◌∙◌, arith}
+use Rattle.std.proofs.lemmas.List.{length-map, get_or-map}
 use Rattle.std.proofs.lemmas.Int.{ints}
 use Rattle.std.proofs.lemmas.Bool.Decides.{nat_tests}
-use Rattle.refusal.specs.declared.Fault.{Fault}
-use Rattle.refusal.specs.declared.Refusal.{Refusal}
 use Rattle.refusal.specs.declared.Refusal.TheVariants.{OutOfRange}
-use Rattle.refusal.specs.Checks.{check, count_of, placed, raised, ◌into◌}
+use Rattle.refusal.specs.Checks.{check, count_of, placed, raised}
 use Rattle.refusal.proofs.Then.{then_ok, into_ok, count_ok, placed_ok, raised_ok, raised_passed, ok_from}
 use Rattle.book.specs.Opening.{seats_from, opening}
-
-here : (m line : ℕ) (xs : List ℤ) (i : ℕ) (x : ℤ) (r : Result ℕ Refusal) → i < length xs → x ≡ get_or xs i (pos 0) → r ≡ count_of 0 m x OutOfRange →
-    seats_from m line (drop i xs) ≡ (placed line r into λ _. seats_from m (line + 1) (drop (i + 1) xs))
-here m line xs i x r l e q =
-    at_drop_more (seats_from m line) xs i (pos 0) l ∙ ap (λ z. placed line z into λ _. seats_from m (line + 1) (drop (i + 1) xs)) (sym (q ∙ ap (λ y. count_of 0 m y OutOfRange) e))
-
--- an account that is refused, and one that passes
-pub seats_stop : (m line : ℕ) (xs : List ℤ) (i : ℕ) (x : ℤ) (r : Result ℕ Refusal) (f : Fault) → i < length xs → x ≡ get_or xs i (pos 0) → r ≡ count_of 0 m x OutOfRange → Err f ≡ placed line r →
-    seats_from m line (drop i xs) ≡ Err f
-seats_stop m line xs i x r f l e q z = here m line xs i x r l e q ∙ ap (λ w. w into λ _. seats_from m (line + 1) (drop (i + 1) xs)) (sym z)
-
-pub seats_pass : (m line : ℕ) (xs : List ℤ) (i : ℕ) (x : ℤ) (r : Result ℕ Refusal) (n : ℕ) → i < length xs → x ≡ get_or xs i (pos 0) → r ≡ count_of 0 m x OutOfRange → Ok n ≡ placed line r →
-    seats_from m line (drop i xs) ≡ seats_from m (line + 1) (drop (i + 1) xs)
-seats_pass m line xs i x r n l e q z = here m line xs i x r l e q ∙ ap (λ w. w into λ _. seats_from m (line + 1) (drop (i + 1) xs)) (sym z)
 
 -- where all passed, each account has a member of the house
 seats_ok : (m line : ℕ) (xs : List ℤ) (u : Unit) → seats_from m line xs ≡ Ok u → (k : ℕ) → k < length xs → nat_abs (get_or xs k (pos 0)) < m

@@ -1,13 +1,10 @@
 use Rattle.std.proofs.Common.{◌≡◌, ◌+◌, [], ◌∷◌, ◌++◌, map, take, vec_items, sym, ap, ◌∙◌, subst, arith, rules}
 use Rattle.std.proofs.lemmas.List.{map_more, take_all, length-map, get_or_read}
-use Rattle.keeper.proofs.Filling.{Filling, filling_none, filling_put, filled_all}
+use Rattle.keeper.proofs.Filling.{Filling, filling_put, filled_all}
 use Rattle.swaps.specs.Swaps.{blank}
 use Rattle.swaps.specs.Ends.{sooner, end_of}
 use Rattle.swaps.specs.Sooner.{sooner-total}
 use Rattle.book.proofs.book.Book.diary.Goals as goal
-
-pub loop-swap-init : goal.loop-swap-init
-loop-swap-init c = (omega arith, filling_none sooner c.new-keeper.result c.new-keeper.ensures.filled)
 
 pub loop-swap-preserved : goal.loop-swap-preserved
 loop-swap-preserved c =

@@ -1,8 +1,6 @@
-use Rattle.std.proofs.Common.{length, get_or, vec_items, refl, ◌∙◌, arith}
+use Rattle.std.proofs.Common.{length, get_or, vec_items, refl, arith}
 use Rattle.swaps.specs.Swaps.{blank}
 use Rattle.swaps.specs.States.{after_event}
-use Rattle.book.specs.Reading.{reading}
-use Rattle.book.proofs.Edits.{answered_at, after_at}
 use Rattle.book.proofs.Events.{steady}
 use Rattle.book.proofs.book.Book.step.Goals as goal
 
@@ -26,14 +24,4 @@ invariant_of-self c =
       limited = still.limited;
       due = still.due;
       ordered = still.ordered;
-    }
-
-pub returns : goal.returns
-returns c =
-    let b = c.args.self.now in
-    let ss = vec_items b.table.swaps in
-    let r = after_event (get_or ss c.args.i blank).state c.args.event in
-    record {
-      answer = c.change.ensures.answer ∙ answered_at c.args.i r;
-      after = after_at (reading b) c.args.i r (vec_items c.change.new.self.swaps) c.change.ensures.after;
     }
