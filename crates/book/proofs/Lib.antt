@@ -1,4 +1,3 @@
-pub mod Edits
 pub mod Seats
 pub mod Sound
 pub mod Accepted
