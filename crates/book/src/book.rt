@@ -5,7 +5,8 @@ ghost use Rattle.swaps.specs.Swaps.{Each, Between, Limited, Due, rising};
 use crate::table::Table;
 
 // The house's members, the member of each account, the last closed session, the last number given, and the live swaps. The laws of every
-// book read what always holds off these fields, so a book has ghost fields and no model of its own.
+// book read what always holds off these fields, so a book has ghost fields and no model of its own. The member of an account is a plain number,
+// below the house's own count of members, which may be less than 32.
 #[derive(Drop)]
 pub struct Book {
     pub(crate) members: u32,

@@ -78,10 +78,9 @@ impl Book {
         ensures after { reading self.new ≡ after (offered (reading self.old) offer.now) (reading self.old) (taken (reading self.old)) }
     {
         let swap = self.offered(offer)?;
-        let number = swap.number;
-        self.given = number;
+        self.given = swap.number;
         self.table.swaps.push_reserved(swap);
-        Ok(number)
+        Ok(swap.number)
     }
 
     // The place of the live swap of that number: their numbers rise.
@@ -113,7 +112,7 @@ impl Book {
         self.table.change(i, event)
     }
 
-    // A party asks to end a swap early.
+    // A party asks to end a swap early. Ask and answer are two calls of the house, and what they share is in `heard` and `step`.
     pub fn ask(&mut self, request: &Request) -> Result<(), Fault>
         ensures answer { result ≡ raised (answered (asked (reading self.old) request.now) (λ _. tt)) }
         ensures after { reading self.new ≡ after (asked (reading self.old) request.now) (reading self.old) (changed (reading self.old)) }

@@ -10,7 +10,8 @@ use keeper::Keeper;
 use swaps::ends::End;
 
 impl Book {
-    // Fills the places with the first ends in order, and answers how many it filled; the others stay.
+    // Fills the places, which are lent since no call asks for memory, with the first ends in order, and answers how many it filled; the others
+    // stay.
     pub fn diary(&self, places: &mut [End]) -> usize
         ensures count { result ≡ min (length places.old) (length (reading self.now).swaps) }
         ensures held { take result places.new ≡ first_of sooner (length places.old) (map end_of (reading self.now).swaps) }

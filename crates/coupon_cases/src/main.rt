@@ -4,12 +4,12 @@
 #![tactic(auto)]
 
 use anyhow::{Context, bail};
-use coupons::amounts::{Centavos, Nominal, Trm};
+use coupons::amounts::Centavos;
 use coupons::legs::{CouponLine, Kind};
 use coupons::lines::{Terms, coupon};
 use coupons::overnight::Observation;
 use coupons::plain::{alignment, dollars, simple};
-use std::alloc::{AllocError, Global};
+use std::alloc::Global;
 use std::io::{BufRead, BufReader};
 
 // A word's number. Another program has this function too: a crate for the two to share would be longer than the function.
@@ -32,23 +32,28 @@ fn observation(word: &str) -> anyhow::Result<Observation> {
     })
 }
 
-// The coupon of a line, or its fault.
+// The coupon of a line, or its fault; nominals and TRM as the engine has checked them before.
 fn told(
     heap: Global,
     terms: &Terms,
-    trm: Trm,
+    trm: i64,
     line: &CouponLine,
     observations: &[Observation],
-) -> Result<String, AllocError> {
+) -> anyhow::Result<String> {
+    let millions = terms.millions.unsigned_abs();
+    let thousands = terms.thousands.unsigned_abs();
+    if millions > 100_000 || thousands > 100_000 || trm.unsigned_abs() > 2_000_000 {
+        bail!("a figure is outside its limits");
+    }
     match coupon(terms, trm, line, observations) {
         Ok(centavos) => {
             let centavos = centavos.get();
-            format!(in heap; "coupon={centavos}")
+            Ok(format!(in heap; "coupon={centavos}")?)
         }
         Err(fault) => {
             let number = fault.refusal().number();
             let observation = fault.observation();
-            format!(in heap; "fault={number} observation={observation}")
+            Ok(format!(in heap; "fault={number} observation={observation}")?)
         }
     }
 }
@@ -74,11 +79,10 @@ fn line(heap: Global, figures: &str) -> anyhow::Result<String> {
     let observations: Vec<Observation> = words.map(observation).try_collect(heap)?;
     let terms = Terms {
         kind,
-        millions: Nominal::new(millions).context("a figure is outside its limits")?,
-        thousands: Nominal::new(thousands).context("a figure is outside its limits")?,
+        millions,
+        thousands,
     };
-    let trm = Trm::new(trm).context("a figure is outside its limits")?;
-    Ok(told(heap, &terms, trm, &line, &observations)?)
+    told(heap, &terms, trm, &line, &observations)
 }
 
 // What a C host is answered: -2^63 is a refusal.
@@ -87,7 +91,7 @@ fn formula(heap: Global, name: &str, figures: &str) -> anyhow::Result<String> {
     let a = number(words.next())?;
     let b = number(words.next())?;
     let c = number(words.next())?;
-    // The name is a word of the case.
+    // The name is a word of the case: a `match` on it is as plain as a table of calls.
     let centavos = match name {
         "fixed" | "variable" => simple(a, b, c),
         "dollars" => dollars(a, b, c, number(words.next())?),

@@ -31,14 +31,14 @@ abbrev pub paid : {E : Type 0} → Result ℤ E → Result ℤ E
 paid (Ok z) = Ok (neg_ℤ z)
 paid (Err e) = Err e
 
--- a leg's coupon for the long side: it pays fixed and dollar legs, and receives the others
-abbrev pub leg_coupon : Terms → ℤ → Leg → List Observation → Result ℤ Fault
-leg_coupon t trm (Fixed rate days) all = raised (paid (simple_coupon t.millions rate days))
-leg_coupon t trm (Variable rate days) all = raised (simple_coupon t.millions rate days)
-leg_coupon t trm (Dollars rate days) all = raised (paid (dollar_coupon t.thousands rate days trm))
-leg_coupon t trm (Overnight first count) all = overnight_coupon t.millions first count all
+-- a leg's coupon for the long side, of so many millions and thousands: it pays fixed and dollar legs, and receives the others
+abbrev pub leg_coupon : ℤ → ℤ → ℤ → Leg → List Observation → Result ℤ Fault
+leg_coupon millions thousands trm (Fixed rate days) all = raised (paid (simple_coupon millions rate days))
+leg_coupon millions thousands trm (Variable rate days) all = raised (simple_coupon millions rate days)
+leg_coupon millions thousands trm (Dollars rate days) all = raised (paid (dollar_coupon thousands rate days trm))
+leg_coupon millions thousands trm (Overnight first count) all = overnight_coupon millions first count all
 
 -- the coupon of a line: its leg has to be one of the swap's kind
 abbrev pub line_coupon : Terms → ℤ → Option Leg → List Observation → Result ℤ Fault
 line_coupon t trm None all = Err (bare refusals.Leg)
-line_coupon t trm (Some leg) all = raised (check (of_kind t.kind leg) refusals.Leg) then leg_coupon t trm leg all
+line_coupon t trm (Some leg) all = raised (check (of_kind t.kind leg) refusals.Leg) then leg_coupon t.millions t.thousands trm leg all

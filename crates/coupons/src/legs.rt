@@ -46,6 +46,7 @@ pub fn kind_laws()
     ensures { KindsReadBack }
 {}
 
+// The kinds of legs are the market's own, so three of them have the same figures.
 // A leg and its own figures: a rate in points with spread and its days, or a range of observations.
 #[derive(Clone, Copy, Debug, PartialEq, Eq)]
 pub enum Leg {

@@ -56,7 +56,7 @@ pub(crate) fn accrual(rate: i64, days: i64) -> Result<Accrual, Refusal>
     Ok(Accrual { rate, days })
 }
 
-// An overnight rate in mills, and its days.
+// An overnight rate in mills, and its days: with its four limits as parameters, one function of this and the last would be no plainer.
 pub(crate) fn overnight(rate: i64, days: i64) -> Result<(Bounded<50_000>, Bounded<10>), Refusal>
     ensures { result ≡ overnight_checks rate days then Ok (rate, days) }
 {

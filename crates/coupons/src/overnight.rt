@@ -59,7 +59,8 @@ fn days_of(window: Window) -> Result<Days, Fault>
     Ok(days)
 }
 
-// The factor after the observations, which starts at 10^11.
+// The factor after the observations, which starts at 10^11. It is the same walk as for the days, and one of both would take a step as a closure
+// that may refuse.
 fn factor_of(window: Window) -> Result<Factor, Fault>
     requires { Good window.observations.now }
     ensures { result ≡ factor_of window.entry.observations.now }

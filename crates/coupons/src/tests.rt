@@ -1,5 +1,5 @@
 // The worked coupons, through the calls.
-use crate::amounts::{Centavos, Nominal, Trm};
+use crate::amounts::Centavos;
 use crate::legs::{CouponLine, Kind};
 use crate::lines::{Terms, coupon};
 use crate::overnight::Observation;
@@ -29,8 +29,8 @@ fn dollars_and_alignment(rt: HostRuntime) {
 fn an_overnight_line(rt: HostRuntime) {
     let terms = Terms {
         kind: Kind::Ois,
-        millions: Nominal::of(10_000),
-        thousands: Nominal::of(0),
+        millions: 10_000,
+        thousands: 0,
     };
     let line = CouponLine {
         swap: 1,
@@ -48,7 +48,7 @@ fn an_overnight_line(rt: HostRuntime) {
         },
     ];
     assert_eq!(rt;
-        coupon(&terms, Trm::of(391_245), &line, &observations).map(Centavos::get),
+        coupon(&terms, 391_245, &line, &observations).map(Centavos::get),
         Ok(1_000_187_556)
     );
 }

@@ -1,4 +1,5 @@
-// The static library of the coupon formulas, on plain numbers: what a C host is answered, and -2^63 where a figure is outside its limits.
+// The static library of the coupon formulas, on plain numbers: what a C host is answered, and -2^63, since C has no `Result`, where a figure
+// is outside its limits.
 #![tactic(auto)]
 
 ghost use Rattle.std.specs.Prelude.{◌≡◌, false, negsuc, is_ok};

@@ -56,7 +56,7 @@ impl House {
         demand(settled(&self.orders), Refusal::SettlementUnderWay)
     }
 
-    // Takes in a swap between two accounts, and answers its number.
+    // Takes in a swap between two accounts, and answers its number. What this call and the next two share is `check_settled`.
     pub fn accept(&mut self, offer: &Offer) -> Result<u32, Fault>
         ensures answer { result ≡ raised (answered (accepting (holding self.old) offer.now) (λ s. s.number)) }
         ensures after { holding self.new ≡ afterwards (accepting (holding self.old) offer.now) (holding self.old) (λ s. with_book (holding self.old) (taken (holding self.old).book s)) }

@@ -76,8 +76,6 @@ fn shown_swap(heap: Global, swap: &Swap) -> Result<String, AllocError> {
         millions,
         thousands,
     } = terms;
-    let millions = millions.get();
-    let thousands = thousands.get();
     format!(in heap;
         "{long} {short} {kind} {millions} {thousands} {npv} {registered} {maturity} {state}"
     )
@@ -152,7 +150,7 @@ impl Script {
     // What the house answers to a call.
     fn told(&mut self, call: &str) -> anyhow::Result<String> {
         let (name, figures) = call.split_once(' ').unwrap_or((call, ""));
-        // The name is a word of the script.
+        // The name is a word of the script: a `match` on it is as plain as a table of calls.
         match name {
             "open" => self.open(figures),
             "accept" => self.accept(figures),
@@ -167,6 +165,7 @@ impl Script {
     }
 }
 
+// Each program has such a loop of its own: a shared one would take the call as a closure, and be longer.
 fn main(rt: HostRuntime) -> anyhow::Result<()> {
     let heap = rt.alloc();
     let house = House::new(heap)?;

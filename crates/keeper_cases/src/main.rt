@@ -21,6 +21,7 @@ pub struct Runner {
     pub bib: u32,
 }
 
+// Not the library's order: the bib stays out of it.
 impl Ordered for Runner {
     ghost before = { faster };
 
@@ -98,6 +99,7 @@ fn put_all(heap: Global, runners: &[Runner], count: u8) -> anyhow::Result<String
     shown(heap, filled, &places)
 }
 
+// Each program has such a loop of its own: a shared one would take the call as a closure, and be longer.
 fn main(rt: HostRuntime) -> anyhow::Result<()> {
     let heap = rt.alloc();
     for case in BufReader::new(heap, rt.stdin())?.lines(heap) {

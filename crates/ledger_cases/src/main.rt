@@ -19,7 +19,7 @@ fn number(word: Option<&str>) -> anyhow::Result<u64> {
     Ok(word.context("a figure is missing")?.parse::<u64>()?)
 }
 
-// The name is a word of the input.
+// The name is a word of the input: a `match` on it is as plain as a table of calls.
 fn transfer_of(name: &str, member: usize, amount: u64) -> anyhow::Result<Transfer> {
     Ok(match name {
         "charge" => Transfer::Charge { member, amount },
@@ -118,6 +118,7 @@ fn answers(
     Ok(format!(in heap; "deposit {deposit}\nline {line}\n")?)
 }
 
+// Each program has such a loop of its own: a shared one would take the call as a closure, and be longer.
 fn main(rt: HostRuntime) -> anyhow::Result<()> {
     let heap = rt.alloc();
     let mut deposits = DepositBook::open(&[], 0).ok().context("no deposit book")?;

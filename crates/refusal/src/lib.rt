@@ -62,7 +62,7 @@ impl Refusal {
     }
 }
 
-// A refusal and its place. Line and observation count from 1, and are 0 where none applies.
+// A refusal and its place. Line and observation count from 1, and are 0 where none applies: so the rules have them, and so they are printed.
 #[derive(Clone, Copy, Debug, PartialEq, Eq)]
 pub struct Fault {
     refusal: Refusal,
@@ -163,7 +163,7 @@ pub fn on_line<T>(res: Result<T, Refusal>, line: u32) -> Result<T, Fault>
     res.map_err(|refusal| Fault::from(refusal).at_line(line))
 }
 
-// An answer from below, with a refusal at the observation that met it.
+// An answer from below, with a refusal at the observation that met it. One function of this and the last would take a closure at each call.
 pub fn on_observation<T>(res: Result<T, Refusal>, observation: u32) -> Result<T, Fault>
     ensures { result ≡ seen observation res }
 {

@@ -8,7 +8,7 @@ use crate::order::{Side, balanced, count_orders};
 use members::{MEMBERS, Member};
 use std::str;
 
-// A cash sheet: its session, and the net of each member. A negative net is a charge, a positive one a credit.
+// A cash sheet: its session, and the net of each member, a signed figure as netting gives it. A negative net is a charge, a positive one a credit.
 #[derive(Clone, Copy, Debug, PartialEq, Eq)]
 pub struct Sheet {
     pub session: u32,

@@ -36,7 +36,8 @@ fn check_room(page: &Page, buffer: &[u8]) -> Result<(), Refusal>
     demand(page.len() <= buffer.len(), Refusal::ListLength)
 }
 
-// Writes the sheet of a session and one net for each member from 0 on. It answers how many bytes it wrote.
+// Writes the sheet of a session and one net for each member from 0 on. It answers how many bytes it wrote, into a buffer that is lent since the
+// writer asks for no memory.
 pub fn write(session: i64, nets: &[i64], buffer: &mut [u8]) -> Result<usize, Fault>
     ensures answer { result ≡ raised (writing session nets.now (length buffer.old)) }
     ensures after { buffer.new ≡ filled (writing session nets.now (length buffer.old)) (text (unsigned_abs session) nets.now) buffer.old }

@@ -20,18 +20,22 @@ fn nibble(digit: u8) -> Option<u8> {
     }
 }
 
-// The bytes that pairs of hexadecimal digits write.
+// The byte that a pair of hexadecimal digits writes.
+fn byte(pair: &[u8]) -> anyhow::Result<u8> {
+    let [high, low] = pair else {
+        return Err(anyhow!("a digit with no partner"));
+    };
+    let high = nibble(*high).context("no digit")?;
+    let low = nibble(*low).context("no digit")?;
+    Ok((high << 4) | low)
+}
+
 fn bytes_of(heap: Global, hex: &str) -> anyhow::Result<Vec<u8>> {
-    let mut bytes = Vec::new(heap);
-    for pair in hex.as_bytes().chunks(2) {
-        let [high, low] = pair else {
-            return Err(anyhow!("a digit with no partner"));
-        };
-        let high = nibble(*high).context("no digit")?;
-        let low = nibble(*low).context("no digit")?;
-        bytes.push((high << 4) | low)?;
-    }
-    Ok(bytes)
+    hex.as_bytes().chunks(2).map(byte).try_collect(heap)
+}
+
+fn net(word: &str) -> anyhow::Result<i64> {
+    Ok(word.parse::<i64>()?)
 }
 
 // What the writer answered, as it is printed.
@@ -56,17 +60,14 @@ fn run_writer(heap: Global, figures: &str) -> anyhow::Result<String> {
     let mut words = figures.split(' ');
     let room = words.next().context("no room")?.parse::<usize>()?;
     let session = words.next().context("no session")?.parse::<i64>()?;
-    let mut nets = Vec::new(heap);
-    for word in words {
-        nets.push(word.parse::<i64>()?)?;
-    }
+    let nets: Vec<i64> = words.map(net).try_collect(heap)?;
     let mut buffer = vec![in heap; 0xaau8; room]?;
     let answer = Written(write(session, &nets, &mut buffer));
     let buffer = hex::encode(heap, &buffer)?;
     Ok(format!(in heap; "{answer}buffer={buffer}\n")?)
 }
 
-// The first word of a case says what is run.
+// The first word of a case says what is run: a `match` on it is as plain as a table of calls.
 fn answer(heap: Global, case: &str) -> anyhow::Result<String> {
     match case.split_once(' ') {
         Some(("read", hex)) => Ok(report(heap, &bytes_of(heap, hex)?)?),
@@ -75,6 +76,7 @@ fn answer(heap: Global, case: &str) -> anyhow::Result<String> {
     }
 }
 
+// Each program has such a loop of its own: a shared one would take the call as a closure, and be longer.
 fn main(rt: HostRuntime) -> anyhow::Result<()> {
     let heap = rt.alloc();
     for line in BufReader::new(heap, rt.stdin())?.lines(heap) {

@@ -17,6 +17,7 @@ pub enum Mark {
 }
 
 impl Mark {
+    // `char::from` would not say that it is a letter for diaries.
     pub fn letter(self) -> char
         ensures { result ≡ letter_of self }
     {
@@ -57,6 +58,7 @@ impl fmt::Display for End {
     }
 }
 
+// Not the library's order: the mark stays out of it.
 impl Ordered for End {
     ghost before = { sooner };
 

@@ -24,8 +24,8 @@ pub fn terms_of(letter: char, millions: i64, thousands: i64) -> Result<Terms, Re
     ensures { result ≡ terms_of letter millions thousands }
 {
     let kind = Kind::try_from(letter)?;
-    let millions = nominal(millions)?;
-    let thousands = thousands_of(kind, thousands)?;
+    let millions = nominal(millions)?.get();
+    let thousands = thousands_of(kind, thousands)?.get();
     Ok(Terms {
         kind,
         millions,

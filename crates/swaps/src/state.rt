@@ -31,7 +31,7 @@ impl fmt::Display for State {
     }
 }
 
-// What a party does about an early end.
+// What a party does about an early end. A state is matched with each of them, so a yes and a no are variants of their own.
 #[derive(Clone, Copy, Debug, PartialEq, Eq)]
 pub enum Event {
     Ask { by: u32, payment: i64, session: u32 },

@@ -1,5 +1,5 @@
 use Rattle.std.proofs.Common.{◌≡◌, ◌+◌, [], ◌∷◌, ◌++◌, map, take, vec_items, sym, ap, ◌∙◌, subst, arith, rules}
-use Rattle.std.proofs.lemmas.List.{map_more, take_all, length-map, get_or_read}
+use Rattle.std.proofs.lemmas.List.{map_more, take_all, length-map}
 use Rattle.keeper.proofs.Filling.{Filling, filling_put, filled_all}
 use Rattle.swaps.specs.Swaps.{blank}
 use Rattle.swaps.specs.Ends.{sooner, end_of}
@@ -13,8 +13,7 @@ loop-swap-preserved c =
     let start = c.new-keeper.result in
     let after = c.put.new.self in
     let x = c.end.result in
-    let read = get_or_read ss i c.swap-item.result c.loop-swap-test.true c.swap-item.is blank in
-    let next : map end_of (take i ss) ++ x ∷ [] ≡ map end_of (take (i + 1) ss) = ap (λ y. map end_of (take i ss) ++ y ∷ []) (c.end.ensures ∙ ap end_of read) ∙ sym (map_more end_of ss i blank c.loop-swap-test.true) in
+    let next : map end_of (take i ss) ++ x ∷ [] ≡ map end_of (take (i + 1) ss) = ap (λ y. map end_of (take i ss) ++ y ∷ []) c.end.ensures ∙ sym (map_more end_of ss i blank c.loop-swap-test.true) in
     (omega arith, subst (λ l. Filling sooner start l after) next (filling_put sooner start (map end_of (take i ss)) c.loop-swap.keeper x after c.loop-swap.invariant.1 c.put.ensures.put c.put.ensures.lent))
 
 pub returns : goal.returns
