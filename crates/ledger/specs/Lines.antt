@@ -1,22 +1,26 @@
 -- A member's line, what is drawn on it and what is left.
-use Rattle.std.specs.Prelude.{◌≡◌, ℕ, ◌≤◌, List, ℤ, pos, ◌+ℤ◌, slice_index_or}
-use Rattle.std.proofs.Common.{lit≤, arith}
-use Rattle.std.proofs.lemmas.Int.{ints}
+use Rattle.std.specs.Prelude.{◌≡◌, ℕ, ◌≤◌, List, [], ◌∷◌, ℤ, pos, ◌+ℤ◌, slice_index_or}
+use Rattle.std.specs.List.{AllByRecursion}
+use Rattle.std.proofs.Common.{lit≤}
 use Rattle.ledger.specs.declared.line.Line.{Line}
 use Rattle.ledger.specs.Funds.{fund_limit}
-use Rattle.ledger.specs.Drawing.{left_of, Fair}
+use Rattle.ledger.specs.Drawing.{left_of, undrawn-fair}
 
 -- what a member may still draw
 abbrev pub left : Line → ℕ
 left l = left_of l.limit l.drawn
 
--- nothing drawn is fair
-pub fair_undrawn : (limit : ℕ) → limit ≤ fund_limit → Fair limit (pos 0)
-fair_undrawn limit h = (h, omega (arith, ints), omega (arith, ints))
-
 -- a line with nothing drawn
 abbrev pub undrawn : (limit : ℕ) → limit ≤ fund_limit → Line
-undrawn limit h = record { limit = limit; drawn = pos 0; fair = fair_undrawn limit h }
+undrawn limit h = record { limit = limit; drawn = pos 0; fair = undrawn-fair limit h }
+
+-- limits that are a fund's size at most, and their lines with nothing drawn
+abbrev pub WithinFund : List ℕ → Type 0
+WithinFund xs = AllByRecursion (λ x. x ≤ fund_limit) xs
+
+abbrev pub undrawn_lines : (xs : List ℕ) → WithinFund xs → List Line
+undrawn_lines [] h = []
+undrawn_lines (x ∷ xs) h = undrawn x h.0 ∷ undrawn_lines xs h.1
 
 -- a line, and the same with so much more drawn on it, or less where that is below 0; the line itself stays
 abbrev pub DrawnBy : Line → ℤ → Line → Type 0

@@ -64,6 +64,7 @@ impl<A: Accounts> Ledger for Book<A> {
         Ok(())
     }
 
+    // The mirror of a charge: one function of both would take a side and two funds apart, and be no plainer.
     fn credit(&mut self, member: usize, amount: u64) -> Result<(), Rejected> {
         let member = Member::new(member).ok_or(Rejected)?;
         let fund = self.accounts.fund(member);
@@ -81,6 +82,7 @@ impl<A: Accounts> Ledger for Book<A> {
         Ok(())
     }
 
+    // 0 past the last member: a question is never refused, by the ledger's rule.
     fn member_fund(&self, member: usize) -> u64 {
         match Member::new(member) {
             Some(member) => self.accounts.fund(member),

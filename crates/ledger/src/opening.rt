@@ -8,6 +8,7 @@ use crate::{FUND_LIMIT, MEMBERS};
 use refusal::{Fault, Refusal, demand, on_line};
 
 // A fund or a line, if the figure lies within its limits.
+// That a fund is within its limit stands in three contracts: a type for it would need a second set of methods beside `Line`.
 fn fund_of(figure: i64) -> Result<u64, Refusal>
     ensures answer { result ≡ fund_of figure }
     ensures limited { IfOk result (λ x. x ≤ fund_limit) }

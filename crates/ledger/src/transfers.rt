@@ -7,6 +7,7 @@ ghost use Rattle.ledger.specs.Transfers.{decides, after, decisions, funds_after,
 use crate::{Ledger, Rejected};
 use refusal::{Fault, Refusal, demand};
 
+// The three calls of a ledger, which its laws name one by one: so three variants with the same figures.
 #[derive(Clone, Copy, Debug, PartialEq, Eq)]
 pub enum Transfer {
     Charge { member: usize, amount: u64 },

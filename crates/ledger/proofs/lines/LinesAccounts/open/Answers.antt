@@ -25,7 +25,7 @@ returns c =
     let long = c.map.ensures.items.long in
     let limit : (k : ℕ) → k < 32 → (get_or ls k none).limit ≡ get_or xs k 0 = λ k h. let called = (c.map.ensures.items.at k 0 none h).2 in search rules in
     let drawn : (k : ℕ) → k < 32 → (get_or ls k none).drawn ≡ pos 0 = λ k h. let called = (c.map.ensures.items.at k 0 none h).2 in search rules in
-    let whole : (k : ℕ) → k < 32 → get_or (map left ls) k 0 ≡ get_or xs k 0 = λ k h. let m = limit k h in let d = drawn k h in fund-left ls k none long h ∙ omega (arith, ints) in
+    let whole : (k : ℕ) → k < 32 → get_or (map left ls) k 0 ≡ get_or xs k 0 = λ k h. let m = limit k h in let d = drawn k h in fund-left ls k long h ∙ omega (arith, ints) in
     record {
       funds = ext_get_or 0 (map left ls) xs (length-map ls left ∙ long ∙ sym wide) (λ k h. whole k (omega (arith, length-map ls left)));
       fresh = λ k. elim (cases_lt k 32) [ inl h ↦ drawn k h | inr h ↦ ap (λ l. l.drawn) (get_or_past ls k none (omega arith)) ];
