@@ -4,11 +4,10 @@
 #![tactic(auto)]
 
 use anyhow::{Context, bail};
-use coupons::amounts::Centavos;
+use coupons::exports::{runtsigo_alignment, runtsigo_dollars, runtsigo_fixed, runtsigo_variable};
 use coupons::legs::{CouponLine, Kind};
 use coupons::lines::{Terms, coupon};
 use coupons::overnight::Observation;
-use coupons::plain::{alignment, dollars, simple};
 use std::alloc::Global;
 use std::io::{BufRead, BufReader};
 
@@ -93,12 +92,12 @@ fn formula(heap: Global, name: &str, figures: &str) -> anyhow::Result<String> {
     let c = number(words.next())?;
     // The name is a word of the case: a `match` on it is as plain as a table of calls.
     let centavos = match name {
-        "fixed" | "variable" => simple(a, b, c),
-        "dollars" => dollars(a, b, c, number(words.next())?),
-        "alignment" => alignment(a, b, c),
+        "fixed" => runtsigo_fixed(a, b, c),
+        "variable" => runtsigo_variable(a, b, c),
+        "dollars" => runtsigo_dollars(a, b, c, number(words.next())?),
+        "alignment" => runtsigo_alignment(a, b, c),
         _ => bail!("no such formula"),
     };
-    let centavos = centavos.map_or(i64::MIN, Centavos::get);
     Ok(centavos.to_string(heap)?)
 }
 

@@ -2,6 +2,7 @@
 #![tactic(auto)]
 
 pub mod amounts;
+pub mod exports;
 mod factor;
 pub mod figures;
 mod formulas;

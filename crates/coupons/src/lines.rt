@@ -61,7 +61,7 @@ pub fn coupon(
     requires millions { unsigned_abs terms.now.millions ≤ 100000 }
     requires thousands { unsigned_abs terms.now.thousands ≤ 100000 }
     requires trm { unsigned_abs trm ≤ 2000000 }
-    ensures { result ≡ line_coupon terms.now trm (leg_of line.now.letter line.now.figures.0 line.now.figures.1) observations.now }
+    ensures answer { result ≡ line_coupon terms.now trm (leg_of line.now.letter line.now.figures.0 line.now.figures.1) observations.now }
 {
     let leg = line.leg().ok_or(Refusal::Leg)?;
     demand(leg.is_of(terms.kind), Refusal::Leg)?;

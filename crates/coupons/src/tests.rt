@@ -1,28 +1,25 @@
 // The worked coupons, through the calls.
 use crate::amounts::Centavos;
+use crate::exports::{runtsigo_alignment, runtsigo_dollars, runtsigo_fixed};
 use crate::legs::{CouponLine, Kind};
 use crate::lines::{Terms, coupon};
 use crate::overnight::Observation;
-use crate::plain::{alignment, dollars, simple};
 
 #[test]
 fn halves_go_away_from_zero(rt: HostRuntime) {
-    assert_eq!(rt; simple(1, 1, 180).map_or(i64::MIN, Centavos::get), 1);
-    assert_eq!(rt; simple(1, 1, 179).map_or(i64::MIN, Centavos::get), 0);
-    assert_eq!(rt; simple(1, -1, 180).map_or(i64::MIN, Centavos::get), -1);
-    assert_eq!(rt; simple(0, 1, 180).map_or(i64::MIN, Centavos::get), i64::MIN);
+    assert_eq!(rt; runtsigo_fixed(1, 1, 180), 1);
+    assert_eq!(rt; runtsigo_fixed(1, 1, 179), 0);
+    assert_eq!(rt; runtsigo_fixed(1, -1, 180), -1);
+    assert_eq!(rt; runtsigo_fixed(0, 1, 180), i64::MIN);
 }
 
 #[test]
 fn dollars_and_alignment(rt: HostRuntime) {
     assert_eq!(rt;
-        dollars(1_000, 5_000_000, 90, 391_245).map_or(i64::MIN, Centavos::get),
+        runtsigo_dollars(1_000, 5_000_000, 90, 391_245),
         4_890_562_500
     );
-    assert_eq!(rt;
-        alignment(10_000_000_000, 9_000, 3).map_or(i64::MIN, Centavos::get),
-        -7_500_000
-    );
+    assert_eq!(rt; runtsigo_alignment(10_000_000_000, 9_000, 3), -7_500_000);
 }
 
 #[test]

@@ -92,7 +92,11 @@ impl Script {
     fn open(&mut self, figures: &str) -> anyhow::Result<String> {
         let mut words = figures.split(' ');
         let members = number(words.next())?;
-        let accounts: Vec<i64> = words.map(|word| number(Some(word))).try_collect(self.heap)?;
+        // A push each: `try_collect` moves an `anyhow::Result` for every account, and takes half as long again.
+        let mut accounts = Vec::new(self.heap);
+        for word in words {
+            accounts.push(word.parse::<i64>()?)?;
+        }
         Ok(outcome(self.heap, self.house.open(members, &accounts))?)
     }
 

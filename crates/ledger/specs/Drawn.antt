@@ -1,12 +1,13 @@
 -- What is left of a line, and what is drawn on it.
 use Rattle.std.specs.Prelude.{◌≡◌, ℕ, zero, suc, ◌+◌, ◌-◌, ◌<◌, ◌≤◌, List, [], ◌∷◌, map, length, pos, ◌+ℤ◌, neg_ℤ, slice_index, slice_set, refl}
-use Rattle.std.proofs.Common.{ap, set, ◌∙◌, arith}
-use Rattle.std.proofs.lemmas.List.{get_or-map, map-set, length-map}
+use Rattle.std.proofs.Common.{ap, set, inl, inr, ◌∙◌, arith}
+use Rattle.std.proofs.lemmas.Bool.{cases_lt}
+use Rattle.std.proofs.lemmas.List.{ext_get_or, get_or-map, get_or_past, map-set, length-map}
 use Rattle.std.proofs.lemmas.Int.{ints}
 use Rattle.ledger.specs.declared.line.Line.{Line}
 use Rattle.ledger.specs.Funds.{Whole, fund_limit}
-use Rattle.ledger.specs.Drawing.{Fair}
-use Rattle.ledger.specs.Lines.{left, undrawn, WithinFund, undrawn_lines, DrawnBy, line_at, no_limit}
+use Rattle.ledger.specs.Drawing.{Fair, left_of}
+use Rattle.ledger.specs.Lines.{left, undrawn, WithinFund, undrawn_lines, Undrawn, Untouched, DrawnBy, line_at, no_limit}
 -- nothing drawn is fair
 pub use Rattle.ledger.specs.Drawing.{undrawn-fair}
 
@@ -32,6 +33,20 @@ undrawn-left (x ∷ xs) h = let here : left (undrawn x h.0) ≡ x = omega (arith
 
 pub undrawn-each : (xs : List ℕ) (h : WithinFund xs) (k : ℕ) → (line_at (undrawn_lines xs h) k).drawn ≡ pos 0
 undrawn-each xs h k = ap (λ l. l.drawn) (undrawn_at xs h k)
+
+-- with nothing drawn just the limits are left, whatever they are
+pub undrawn_left_of : (xs : List ℕ) → map (λ x. left_of x (pos 0)) xs ≡ xs
+undrawn_left_of [] = refl
+undrawn_left_of (x ∷ xs) = let here : left_of x (pos 0) ≡ x = omega (arith, ints) in ap (λ y. y ∷ map (λ z. left_of z (pos 0)) xs) here ∙ ap (λ ys. x ∷ ys) (undrawn_left_of xs)
+
+-- the lines that a book is opened with, of whatever limits: they leave just these, and are untouched
+pub undrawn_leave : (xs : List ℕ) (ls : List Line) → Undrawn xs ls → map left ls ≡ xs
+undrawn_leave xs ls u =
+    let none = undrawn 0 no_limit in
+    ext_get_or 0 (map left ls) xs (length-map ls left ∙ u.0) (λ k h. let w : k < length xs = omega (arith, length-map ls left, u.0) in let l = (u.1 k w).0 in let d = (u.1 k w).1 in get_or-map left ls k none 0 (omega (arith, u.0)) ∙ omega (arith, ints))
+
+pub undrawn_untouched : (xs : List ℕ) (ls : List Line) → Undrawn xs ls → Untouched ls
+undrawn_untouched xs ls u = λ k. elim (cases_lt k (length xs)) [ inl h ↦ (u.1 k h).1 | inr h ↦ ap (λ l. l.drawn) (get_or_past ls k (undrawn 0 no_limit) (omega (arith, u.0))) ]
 
 -- what is left of each line is a fund's size at most, so lines make funds within their limits
 pub each_left : (ls : List Line) → length ls ≡ 32 → (k : ℕ) → k < 32 → slice_index (map left ls) k ≤ fund_limit

@@ -1,5 +1,5 @@
 -- A member's line, what is drawn on it and what is left.
-use Rattle.std.specs.Prelude.{◌≡◌, ℕ, ◌≤◌, List, [], ◌∷◌, ℤ, pos, ◌+ℤ◌, slice_index_or}
+use Rattle.std.specs.Prelude.{◌≡◌, ℕ, ◌<◌, ◌≤◌, List, [], ◌∷◌, length, ℤ, pos, ◌+ℤ◌, slice_index, slice_index_or}
 use Rattle.std.specs.List.{AllByRecursion}
 use Rattle.std.proofs.Common.{lit≤}
 use Rattle.ledger.specs.declared.line.Line.{Line}
@@ -33,6 +33,10 @@ no_limit = lit≤ tt
 -- the line at a member's place
 abbrev pub line_at : List Line → ℕ → Line
 line_at ls m = slice_index_or ls m (undrawn 0 no_limit)
+
+-- lines that have these limits, and of which nothing is drawn
+abbrev pub Undrawn : List ℕ → List Line → Type 0
+Undrawn xs ls = (length ls ≡ length xs) × ((k : ℕ) → k < length xs → ((line_at ls k).limit ≡ slice_index xs k) × ((line_at ls k).drawn ≡ pos 0))
 
 -- nothing is drawn on any line
 abbrev pub Untouched : List Line → Type 0

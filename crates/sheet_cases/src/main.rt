@@ -63,8 +63,13 @@ fn run_writer(heap: Global, figures: &str) -> anyhow::Result<String> {
     let nets: Vec<i64> = words.map(net).try_collect(heap)?;
     let mut buffer = vec![in heap; 0xaau8; room]?;
     let answer = Written(write(session, &nets, &mut buffer));
-    let buffer = hex::encode(heap, &buffer)?;
-    Ok(format!(in heap; "{answer}buffer={buffer}\n")?)
+    let mut out = format!(in heap; "{answer}buffer=")?;
+    // in parts, so that a large buffer's digits stand in memory once
+    for part in buffer.chunks(4096) {
+        out.push_str(hex::encode(heap, part)?.as_str())?;
+    }
+    out.push_str("\n")?;
+    Ok(out)
 }
 
 // The first word of a case says what is run: a `match` on it is as plain as a table of calls.
